@@ -1,0 +1,8 @@
+// A place in a text.
+
+/// A piece of a text, from `start` to just before `end`, both counted in bytes from 0.
+#[derive(Clone, Copy, Debug, PartialEq, Eq)]
+pub struct Span {
+    pub start: u32,
+    pub end: u32,
+}
