@@ -1,0 +1,22 @@
+//! The model of a machine and of its instructions: token classes and fields, patterns and what they mean on bytes,
+//! constructors, instances, and statements.
+#![tactic(auto)]
+
+mod constructor;
+mod instance;
+mod pattern;
+mod raw;
+mod spec;
+mod statement;
+mod tokens;
+
+pub use constructor::{
+    Atom, Constructor, ConstructorId, ConstructorList, Equation, EquationList, KindList, Name,
+    NameList, OperandKind, Term, TermList, TypeId,
+};
+pub use instance::{Instance, LabelId, Operand, OperandList};
+pub use pattern::{Argument, ArgumentList, Pattern, PatternList, Relation};
+pub use raw::{Match, MatchList, Raw, RawEntry, RawList};
+pub use spec::Spec;
+pub use statement::{Arm, ArmList, Piece, PieceList, Statement};
+pub use tokens::{Class, ClassId, ClassList, Field, FieldId, FieldList, Order, Tokens};
