@@ -1,0 +1,6 @@
+pub mod Names
+pub mod NameTables
+pub mod Terms
+pub mod Actions
+pub mod Meaning
+pub mod Conditions

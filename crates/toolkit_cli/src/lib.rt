@@ -1,0 +1,10 @@
+//! The program's one call, `run`, and what it stands on: words, texts, the listing, and the edge to the real world.
+#![tactic(auto)]
+
+ghost use Rattle.toolkit_cli.specs.Conditions.{statement_lack};
+ghost use Rattle.toolkit_cli.specs.Meaning.{statement_of};
+
+mod lack;
+mod names;
+mod numbers;
+mod terms;
