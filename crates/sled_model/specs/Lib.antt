@@ -1,1 +1,4 @@
 pub mod Tokens
+pub mod Results
+pub mod First
+pub mod Simple
