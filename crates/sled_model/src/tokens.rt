@@ -1,5 +1,10 @@
 // Token classes and fields.
+ghost use Rattle.std.specs.Prelude.{◌≡◌, ◌≤◌, ◌<◌, ◌+◌, ◌/◌, ◌^◌, ◌++◌, ◌∷◌, [], length, slice_get, IfOk, OnOk, OnErr, IfSome};
+ghost use Rattle.sled_model.specs.Tokens.{number_of, in_order, byte_count, token, bits_of, value_at, IsWidth, IsFieldOf, AreTokens};
+
+use sled_base::NoMemory;
 use sqlite_items::Items;
+use std::alloc::Global;
 
 /// The order in which the bytes of a token stand.
 #[derive(Clone, Copy, Debug, PartialEq, Eq)]
@@ -42,4 +47,133 @@ pub type FieldList = Items<Field>;
 pub struct Tokens {
     pub classes: ClassList,
     pub fields: FieldList,
+}
+
+impl Tokens {
+    /// No classes and no fields.
+    pub fn new(alloc: Global) -> Tokens
+        ensures classes { result.classes ≡ [] }
+        ensures fields { result.fields ≡ [] }
+        ensures sound { AreTokens result }
+    {
+        Tokens {
+            classes: Items::new(alloc),
+            fields: Items::new(alloc),
+        }
+    }
+
+    /// Adds a class, and gives its number. `NoMemory` also where every number is taken.
+    pub fn add_class(&mut self, class: Class) -> Result<ClassId, NoMemory>
+        requires sound { AreTokens self.old }
+        requires width { IsWidth class.width }
+        ensures number { IfOk result (λ id. id.0 ≡ length self.old.classes) }
+        ensures added { OnOk result (self.new ≡ record self.old { classes = self.old.classes ++ class ∷ [] }) }
+        ensures err { OnErr result (self.new ≡ self.old) }
+        ensures sound { AreTokens self.new }
+    {
+        let Ok(number) = u32::try_from(self.classes.len()) else {
+            return Err(NoMemory);
+        };
+        self.classes.push(class)?;
+        Ok(ClassId(number))
+    }
+
+    /// Adds a field, and gives its number. `NoMemory` also where every number is taken.
+    pub fn add_field(&mut self, field: Field) -> Result<FieldId, NoMemory>
+        requires sound { AreTokens self.old }
+        requires place { IsFieldOf self.old.classes field }
+        ensures number { IfOk result (λ id. id.0 ≡ length self.old.fields) }
+        ensures added { OnOk result (self.new ≡ record self.old { fields = self.old.fields ++ field ∷ [] }) }
+        ensures err { OnErr result (self.new ≡ self.old) }
+        ensures sound { AreTokens self.new }
+    {
+        let Ok(number) = u32::try_from(self.fields.len()) else {
+            return Err(NoMemory);
+        };
+        self.fields.push(field)?;
+        Ok(FieldId(number))
+    }
+
+    /// The class of this number, or None where there is no such number.
+    pub fn class(&self, id: ClassId) -> Option<Class>
+        ensures { result ≡ slice_get self.now.classes id.0 }
+    {
+        self.classes.get(id.0 as usize).copied()
+    }
+
+    /// The field of this number, or None where there is no such number.
+    pub fn field(&self, id: FieldId) -> Option<Field>
+        ensures { result ≡ slice_get self.now.fields id.0 }
+    {
+        self.fields.get(id.0 as usize).copied()
+    }
+
+    /// The value of the field in the token at the offset `at` of the window. For a known field it is None exactly where the
+    /// token does not fit in the window, and for an unknown one always.
+    pub fn field_value(&self, field: FieldId, window: &[u8], at: usize) -> Option<u32>
+        requires { AreTokens self.now }
+        ensures { result ≡ value_at self.now field window.now at }
+    {
+        let field = self.field(field)?;
+        let number = token_at(self.class(field.class)?, window, at)?;
+        Some(field.value_of(number))
+    }
+}
+
+impl Class {
+    /// How many bytes a token of the class has.
+    pub fn byte_count(self) -> usize
+        ensures { result ≡ byte_count self }
+    {
+        (self.width / 8) as usize
+    }
+}
+
+impl Field {
+    /// The value of the field in a token.
+    pub(crate) fn value_of(self, token: u32) -> u32
+        requires order { self.lo ≤ self.hi }
+        requires within { self.hi < 32 }
+        ensures { result ≡ bits_of self.lo self.hi token }
+    {
+        ((u64::from(token) >> self.lo) % (1u64 << (self.hi - self.lo + 1))) as u32
+    }
+}
+
+/// The token of the class at the offset, where all its bytes exist.
+pub(crate) fn token_at(class: Class, window: &[u8], at: usize) -> Option<u32>
+    requires { IsWidth class.width }
+    ensures { result ≡ token class window.now at }
+{
+    let count = class.byte_count();
+    if window.len() < count || window.len() - count < at {
+        return None;
+    }
+    let bytes = &window[at..at + count];
+    Some(match class.order {
+        Order::Big => number_from_most(bytes),
+        Order::Little => number_from_least(bytes),
+    })
+}
+
+fn number_from_most(bytes: &[u8]) -> u32
+    requires { length bytes.now ≤ 4 }
+    ensures { result ≡ number_of bytes.now }
+{
+    let mut number: u32 = 0;
+    for byte in bytes {
+        number = 256 * number + u32::from(*byte);
+    }
+    number
+}
+
+fn number_from_least(bytes: &[u8]) -> u32
+    requires { length bytes.now ≤ 4 }
+    ensures { result ≡ number_of (in_order Order.Little bytes.now) }
+{
+    let mut number: u32 = 0;
+    for byte in bytes.iter().rev() {
+        number = 256 * number + u32::from(*byte);
+    }
+    number
 }

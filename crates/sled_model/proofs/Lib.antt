@@ -1,0 +1,6 @@
+pub mod Numbers
+pub mod Lists
+pub mod Equations
+pub mod Known
+pub mod Within
+pub mod Worked

@@ -1,0 +1,32 @@
+-- What the definitions say of a few patterns and bytes.
+use Rattle.std.proofs.Common.{◌≡◌, ℕ, List, [], ◌∷◌, refl, ap, ◌∙◌}
+use Rattle.sled_model.specs.declared.tokens.Tokens.{Tokens}
+use Rattle.sled_model.specs.declared.tokens.Order.TheVariants.{Big, Little}
+use Rattle.sled_model.specs.declared.pattern.Pattern.{Pattern}
+use Rattle.sled_model.specs.declared.pattern.Pattern.TheVariants.{Limit, Bind, Both}
+use Rattle.sled_model.specs.declared.pattern.Relation.TheVariants.{Equal}
+use Rattle.sled_model.specs.declared.raw.RawEntry.TheVariants.{Value}
+use Rattle.sled_model.specs.Results.{alone, results, one_match}
+use Rattle.sled_model.proofs.Equations.{results-Both}
+
+-- fields op 24:31 and v 0:23 of a class of 32 bits
+words : Tokens
+words = record {
+  classes = record { width = 32; order = Big } ∷ [];
+  fields = record { class = record { 0 = 0 }; lo = 24; hi = 31 } ∷ record { class = record { 0 = 0 }; lo = 0; hi = 23 } ∷ [];
+}
+
+-- `op = 1 & v` has one result on 01 00 00 05, which reads 5
+one_and_value : results (alone words) (Both (Limit (record { 0 = 0 }) Equal 1 ∷ Bind (record { 0 = 1 }) ∷ [])) (1 ∷ 0 ∷ 0 ∷ 5 ∷ []) 0 ≡ one_match (Value (record { 0 = 1 }) 5 0 ∷ []) 4
+unfolding words
+one_and_value = results-Both (alone words) _ 0 _
+
+-- and none on 02 00 00 05
+other_value : results (alone words) (Both (Limit (record { 0 = 0 }) Equal 1 ∷ Bind (record { 0 = 1 }) ∷ [])) (2 ∷ 0 ∷ 0 ∷ 5 ∷ []) 0 ≡ []
+unfolding words
+other_value = results-Both (alone words) _ 0 _
+
+-- nor where a byte of the token is missing
+too_short : results (alone words) (Both (Limit (record { 0 = 0 }) Equal 1 ∷ Bind (record { 0 = 1 }) ∷ [])) (1 ∷ 0 ∷ 0 ∷ []) 0 ≡ []
+unfolding words
+too_short = results-Both (alone words) _ 0 _

@@ -1,0 +1,4 @@
+pub mod Tokens
+pub mod Results
+pub mod First
+pub mod Simple

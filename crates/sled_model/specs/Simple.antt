@@ -1,0 +1,64 @@
+-- Patterns of one token: a conjunction of relations and bare fields, all of one class.
+use Rattle.std.specs.Prelude.{ℕ, ◌≡◌, ◌≢◌, Bool, true, false, List, [], ◌∷◌, length, slice_get, All, option_and_then, if◌then◌else◌}
+use Rattle.std.specs.List.{flat_map}
+use Rattle.std.specs.Option.{option_map_or, IsSomeAnd}
+use Rattle.sled_model.specs.declared.tokens.Class.{Class}
+use Rattle.sled_model.specs.declared.tokens.ClassId.{ClassId}
+use Rattle.sled_model.specs.declared.tokens.Field.{Field}
+use Rattle.sled_model.specs.declared.tokens.FieldId.{FieldId}
+use Rattle.sled_model.specs.declared.tokens.Tokens.{Tokens}
+use Rattle.sled_model.specs.declared.raw.RawEntry.{RawEntry}
+use Rattle.sled_model.specs.declared.raw.RawEntry.TheVariants.{Value}
+use Rattle.sled_model.specs.declared.pattern.Pattern.{Pattern, items-the_row-Pattern}
+use Rattle.sled_model.specs.declared.pattern.Pattern.TheVariants.{Limit, Bind, Both'}
+use Rattle.sled_model.specs.Tokens.{byte_count, bits_of}
+use Rattle.sled_model.specs.Results.{Context, results, one_match, has_relation}
+
+-- the field is known, and its tokens are of this class
+abbrev pub IsOfClass : Tokens → ClassId → FieldId → Type 0
+IsOfClass tokens class f = IsSomeAnd (slice_get tokens.fields f.0) (λ field. field.class ≡ class)
+
+-- a relation on a field of the class, or a bare field of it
+abbrev pub IsTerm : Tokens → ClassId → Pattern → Type 0
+IsTerm tokens class (Limit f relation limit) = IsOfClass tokens class f
+IsTerm tokens class (Bind f) = IsOfClass tokens class f
+IsTerm tokens class _ = ⊥
+
+-- the patterns of a conjunction, or else the pattern itself
+abbrev pub terms_of : Pattern → List Pattern
+terms_of (Both' s ps) = items-the_row-Pattern _ ps
+terms_of p = p ∷ []
+
+-- a conjunction of terms of one class, or one such term
+pub record IsSimple (tokens : Tokens) (class : ClassId) (pattern : Pattern) : Type 0 where
+  pub some : terms_of pattern ≢ []
+  pub terms : All (IsTerm tokens class) (terms_of pattern)
+
+-- the field that a term reads out
+abbrev pub term_fields : Pattern → List FieldId
+term_fields (Bind f) = f ∷ []
+term_fields _ = []
+
+-- the bare fields, in order
+abbrev pub bare_fields : Pattern → List FieldId
+bare_fields pattern = flat_map term_fields (terms_of pattern)
+
+-- the entries of fields that were read at offset 0 with these values
+abbrev pub value_entries : List FieldId → List ℕ → List RawEntry
+value_entries (f ∷ fs) (v ∷ vs) = Value f v 0 ∷ value_entries fs vs
+value_entries _ _ = []
+
+-- how many bytes a token of this class has
+abbrev pub class_len : Tokens → ClassId → ℕ
+class_len tokens class = option_map_or byte_count (slice_get tokens.classes class.0) 0
+
+-- whether the pattern matches at the start of the bytes, and the values of its bare fields there, in order: it has one result
+-- then, and else none
+abbrev pub SaysMatch : Context → ClassId → Pattern → List ℕ → Bool → List ℕ → Type 0
+SaysMatch cx class pattern bytes true values =
+    (results cx pattern bytes 0 ≡ one_match (value_entries (bare_fields pattern) values) (class_len cx.tokens class)) × (length values ≡ length (bare_fields pattern))
+SaysMatch cx class pattern bytes false values = results cx pattern bytes 0 ≡ []
+
+-- the same among any constructors, since none stands in the pattern
+abbrev pub MatchesSimply : Tokens → ClassId → Pattern → List ℕ → Bool → List ℕ → Type 0
+MatchesSimply tokens class pattern bytes found values = (cx : Context) → cx.tokens ≡ tokens → SaysMatch cx class pattern bytes found values
