@@ -1,5 +1,5 @@
 -- The text of an action, in pieces: words, and the names in braces.
-use Rattle.std.specs.Prelude.{ℕ, ◌-◌, ◌==◌, List, [], ◌∷◌, ◌++◌, length, take, drop, Option, Some, None, option_map, if◌then◌else◌}
+use Rattle.std.specs.Prelude.{ℕ, suc, ◌-◌, ◌==◌, Bool, not, ◌&&◌, List, [], ◌∷◌, ◌++◌, length, take, drop, Option, Some, None, option_map, if◌then◌else◌}
 use Rattle.sled_model.specs.declared.statement.Piece.{Piece}
 use Rattle.sled_model.specs.declared.statement.Piece.TheVariants.{Words, Bound}
 use Rattle.toolkit_cli.specs.Names.{position_of}
@@ -37,3 +37,14 @@ abbrev mutual
 -- the pieces of a text, where each brace is right
 abbrev pub action_pieces : List (List ℕ) → List ℕ → Option (List Piece)
 action_pieces names text = outside names [] text
+
+-- how many bytes of the front pass the test
+abbrev pub run_len : (ℕ → Bool) → List ℕ → ℕ
+run_len p [] = 0
+run_len p (b ∷ bs) = if p b then suc (run_len p bs) else 0
+
+abbrev pub is_no_brace : ℕ → Bool
+is_no_brace b = not (b == 123) && not (b == 125)
+
+abbrev pub is_no_close : ℕ → Bool
+is_no_close b = not (b == 125)

@@ -4,3 +4,5 @@ pub mod Terms
 pub mod Actions
 pub mod Meaning
 pub mod Conditions
+pub mod Built
+pub mod Steps

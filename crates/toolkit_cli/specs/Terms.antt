@@ -73,10 +73,17 @@ relation_of tree.AtMost = relation.AtMost
 relation_of tree.Above = relation.Above
 relation_of tree.AtLeast = relation.AtLeast
 
+-- a field's relation to a number, where the field is known
+abbrev pub limit_pattern : Spec → List ℕ → RelationTree → List ℕ → Option Pattern
+limit_pattern spec f r n = option_map (λ k. Limit (record { 0 = k }) (relation_of r) (number_value n)) (field_number spec f)
+
+-- the number is one of the field's values, where the field is known
+abbrev pub limit_fits : Spec → List ℕ → List ℕ → Bool
+limit_fits spec f n = option_map_or (λ k. nat_lt (number_value n) (value_count spec k)) (field_number spec f) true
+
 abbrev pub layer_pattern : Spec → PatternTree-F PatternTree → Option Pattern
 layer_pattern spec (layer.Word w) = word_pattern spec w
-layer_pattern spec (layer.Limit f r (value.One n)) =
-    option_map (λ k. Limit (record { 0 = k }) (relation_of r) (number_value n)) (field_number spec f)
+layer_pattern spec (layer.Limit f r (value.One n)) = limit_pattern spec f r n
 layer_pattern spec _ = None
 
 -- the pattern that a term stands for, where its names are known
@@ -84,7 +91,7 @@ abbrev pub term_pattern : Spec → PatternTree → Option Pattern
 term_pattern spec t = layer_pattern spec (out-PatternTree t)
 
 abbrev pub layer_fits : Spec → PatternTree-F PatternTree → Bool
-layer_fits spec (layer.Limit f r (value.One n)) = option_map_or (λ k. nat_lt (number_value n) (value_count spec k)) (field_number spec f) true
+layer_fits spec (layer.Limit f r (value.One n)) = limit_fits spec f n
 layer_fits spec _ = true
 
 -- the number that a term compares a field with is one of the field's values

@@ -4,6 +4,7 @@
 ghost use Rattle.toolkit_cli.specs.Conditions.{statement_lack};
 ghost use Rattle.toolkit_cli.specs.Meaning.{statement_of};
 
+mod action;
 mod lack;
 mod names;
 mod numbers;
