@@ -73,7 +73,6 @@ split_front (x ∷ xs) zero (suc n) below within = refl
 split_front (x ∷ xs) (suc k) zero below within = absurd (omega arith)
 split_front (x ∷ xs) (suc k) (suc n) below within = ap (λ z. x ∷ z) (split_front xs k n (omega arith) (omega arith))
 
-
 drop_first : (text : List ℕ) (at a : ℕ) → at ≤ a → get_or (drop at text) (a - at) 0 ≡ get_or text a 0
 drop_first text at a order = let place : at + (a - at) ≡ a = omega arith in rw get_or-drop (ap (λ z. get_or text z 0) place)
 

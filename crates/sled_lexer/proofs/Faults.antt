@@ -96,9 +96,9 @@ bad_inside [] at n breaks = absurd (let within : n < length {A = ℕ} [] = break
 bad_inside (b ∷ bs) at n breaks =
     let len : n ≡ suc (run_len is_text_byte bs) = open_len b bs n breaks.opened (inr breaks.no_text) in
     let goes : (nat_le (length (b ∷ bs)) n || slice_index (b ∷ bs) n == line_feed) ≡ false = (
-      let within : n < length (b ∷ bs) = breaks.within in
-      let no_feed : slice_index (b ∷ bs) n ≢ line_feed = breaks.no_line_feed in
-      grind (arith, nat_tests)) in
+    let within : n < length (b ∷ bs) = breaks.within in
+    let no_feed : slice_index (b ∷ bs) n ≢ line_feed = breaks.no_line_feed in
+    grind (arith, nat_tests)) in
     rw (opening b breaks.opened.opens) (subst (λ k. fault.BadByte (at + n) ≡ text_fault (b ∷ bs) at k) len (rw goes refl))
 
 left_open : (s : List ℕ) (at : ℕ) → LeavesOpen s → fault.OpenText at ≡ the_fault s at

@@ -1,17 +1,19 @@
 //! The lexemes of a text.
 #![tactic(auto)]
 
-ghost use Rattle.std.specs.Prelude.{◌≡◌, ◌≢◌, ◌<◌, ◌≤◌, ◌^◌, length, drop, slice_index, ◌+◌, false, List, ℕ, IfOk, IfErr};
+ghost use Rattle.std.specs.Prelude.{◌≡◌, ◌≢◌, ◌<◌, ◌≤◌, ◌^◌, length, drop, slice_index, ◌+◌, false, List, IfOk, IfErr, MatchResult};
 ghost use Rattle.sled_lexer.specs.declared.Lexeme.{Lexeme};
+ghost use Rattle.sled_lexer.specs.declared.LexFault.{LexFault};
 ghost use Rattle.sled_lexer.specs.Spelled.{begins_gap};
 ghost use Rattle.sled_lexer.specs.Cut.{gap_len, Follows, Holds};
 ghost use Rattle.sled_lexer.specs.Lexemes.{Lexemes, InRange, IsLexFault, IsFaultAfter, AllWithin};
 
 mod number;
 mod piece;
+#[cfg(test)]
+mod tests;
 
 pub use number::number_value;
-
 use piece::{Stop, gap, piece};
 use sled_base::{MAX_TEXT, Span};
 use std::alloc::{AllocFailed, Global};
@@ -102,6 +104,16 @@ pub fn lex(alloc: Global, text: &[u8]) -> Result<Vec<Lexeme>, LexFault>
     ensures range { IfOk result (λ v. InRange text.now v.items) }
     ensures within { IfOk result (λ v. AllWithin text.now v.items) }
     ensures fault { IfErr result (λ f. f ≢ LexFault.NoMemory → IsLexFault text.now f) }
+
+    // There is no other list and no other fault, and never both.
+    ensures only_list {
+        (ls : List Lexeme) → Lexemes text.now ls → InRange text.now ls
+        → MatchResult result (λ v. v.items ≡ ls) (λ f. f ≡ LexFault.NoMemory)
+    }
+    ensures only_fault {
+        (f : LexFault) → IsLexFault text.now f
+        → MatchResult result (λ _. ⊥) (λ g. g ≢ LexFault.NoMemory → g ≡ f)
+    }
 {
     let mut found = Vec::new(alloc);
     let mut at = 0;
@@ -111,8 +123,3 @@ pub fn lex(alloc: Global, text: &[u8]) -> Result<Vec<Lexeme>, LexFault>
     }
     Ok(found)
 }
-
-/// A text has at most one list of lexemes.
-pub fn one_list()
-    ensures { (text : List ℕ) (ls ms : List Lexeme) → Lexemes text ls → Lexemes text ms → ls ≡ ms }
-{}

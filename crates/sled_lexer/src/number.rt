@@ -3,7 +3,6 @@
 ghost use Rattle.std.specs.Prelude.{◌≡◌, ◌<◌, ◌≤◌, length, true};
 ghost use Rattle.std.specs.Str.Parse.{digits_value};
 ghost use Rattle.std.specs.Char.{digit_value};
-ghost use Rattle.sled_lexer.specs.Spelled.{spelled};
 ghost use Rattle.sled_lexer.specs.Spelled as meaning;
 ghost use Rattle.sled_lexer.specs.Cut as spec;
 
@@ -78,8 +77,7 @@ pub fn cut(text: &[u8]) -> Result<(Kind, usize), Stop>
 
 /// The number that a Number writes, in decimal or behind `0x` in hexadecimal digits. Its caller keeps it to 4,294,967,295.
 pub fn number_value(spelling: &[u8]) -> u32
-    requires number { spelled Kind.Number spelling.now ≡ true }
-    requires in_range { meaning.number_value spelling.now ≤ MAX_NUMBER }
+    requires { meaning.number_value spelling.now ≤ MAX_NUMBER }
     ensures { result ≡ meaning.number_value spelling.now }
 {
     value_of(spelling).unwrap()
