@@ -1,15 +1,21 @@
 //! The lexemes of a text.
 #![tactic(auto)]
 
-ghost use Rattle.std.specs.Prelude.{◌≡◌, ◌≢◌, ◌<◌, ◌≤◌, ◌^◌, length, drop, ◌+◌, false, List, ℕ, IfOk, IfErr};
+ghost use Rattle.std.specs.Prelude.{◌≡◌, ◌≢◌, ◌<◌, ◌≤◌, ◌^◌, length, drop, slice_index, ◌+◌, false, List, IfOk, IfErr, MatchResult};
 ghost use Rattle.sled_lexer.specs.declared.Lexeme.{Lexeme};
-ghost use Rattle.sled_lexer.specs.Cut.{gap_len};
-ghost use Rattle.sled_lexer.specs.Lexemes.{Lexemes, InRange, IsLexFault, AllWithin, Follows, IsStopAfter, Holds};
+ghost use Rattle.sled_lexer.specs.declared.LexFault.{LexFault};
+ghost use Rattle.sled_lexer.specs.Spelled.{begins_gap};
+ghost use Rattle.sled_lexer.specs.Cut.{gap_len, Follows, Holds};
+ghost use Rattle.sled_lexer.specs.Lexemes.{Lexemes, InRange, IsLexFault, IsFaultAfter, AllWithin};
 
+mod number;
 mod piece;
+#[cfg(test)]
+mod tests;
 
+pub use number::number_value;
 use piece::{Stop, gap, piece};
-use sled_base::Span;
+use sled_base::{MAX_TEXT, Span};
 use std::alloc::{AllocFailed, Global};
 
 /// What a lexeme is.
@@ -52,6 +58,7 @@ fn gap_from(text: &[u8], at: usize) -> usize
     requires { at ≤ length text.now }
     ensures value { result ≡ gap_len false (drop at text.now) }
     ensures within { at + result ≤ length text.now }
+    ensures stops { at + result < length text.now → begins_gap (slice_index text.now (at + result)) ≡ false }
 {
     gap(&text[at..])
 }
@@ -59,6 +66,7 @@ fn gap_from(text: &[u8], at: usize) -> usize
 fn piece_from(text: &[u8], at: usize) -> Result<(Kind, usize), Stop>
     requires within { at < length text.now }
     requires small { length text.now < 2 ^ 32 }
+    requires begins { begins_gap (slice_index text.now at) ≡ false }
     ensures { Holds (drop at text.now) result }
 {
     piece(&text[at..])
@@ -67,9 +75,9 @@ fn piece_from(text: &[u8], at: usize) -> Result<(Kind, usize), Stop>
 /// The lexeme that comes next from a place on, if there is one.
 fn next(text: &[u8], at: usize) -> Result<Option<Lexeme>, LexFault>
     requires within { at ≤ length text.now }
-    requires small { length text.now ≤ 1048576 }
+    requires small { length text.now ≤ MAX_TEXT }
     ensures found { IfOk result (λ next. Follows text.now at next) }
-    ensures fault { IfErr result (λ f. IsStopAfter text.now at f) }
+    ensures fault { IfErr result (λ f. IsFaultAfter text.now at f) }
 {
     let start = at + gap_from(text, at);
     if start >= text.len() {
@@ -91,11 +99,21 @@ fn next(text: &[u8], at: usize) -> Result<Option<Lexeme>, LexFault>
 
 /// The lexemes of a text, each as long as possible.
 pub fn lex(alloc: Global, text: &[u8]) -> Result<Vec<Lexeme>, LexFault>
-    requires { length text.now ≤ 1048576 }
+    requires { length text.now ≤ MAX_TEXT }
     ensures ok { IfOk result (λ v. Lexemes text.now v.items) }
     ensures range { IfOk result (λ v. InRange text.now v.items) }
     ensures within { IfOk result (λ v. AllWithin text.now v.items) }
     ensures fault { IfErr result (λ f. f ≢ LexFault.NoMemory → IsLexFault text.now f) }
+
+    // There is no other list and no other fault, and never both.
+    ensures only_list {
+        (ls : List Lexeme) → Lexemes text.now ls → InRange text.now ls
+        → MatchResult result (λ v. v.items ≡ ls) (λ f. f ≡ LexFault.NoMemory)
+    }
+    ensures only_fault {
+        (f : LexFault) → IsLexFault text.now f
+        → MatchResult result (λ _. ⊥) (λ g. g ≢ LexFault.NoMemory → g ≡ f)
+    }
 {
     let mut found = Vec::new(alloc);
     let mut at = 0;
@@ -105,8 +123,3 @@ pub fn lex(alloc: Global, text: &[u8]) -> Result<Vec<Lexeme>, LexFault>
     }
     Ok(found)
 }
-
-/// A text has at most one list of lexemes.
-pub fn one_list()
-    ensures { (text : List ℕ) (ls ms : List Lexeme) → Lexemes text ls → Lexemes text ms → ls ≡ ms }
-{}
