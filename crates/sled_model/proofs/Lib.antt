@@ -3,4 +3,5 @@ pub mod Lists
 pub mod Equations
 pub mod Known
 pub mod Within
+pub mod SimpleLemmas
 pub mod Worked

@@ -6,6 +6,7 @@ mod constructor;
 mod instance;
 mod pattern;
 mod raw;
+mod simple;
 mod spec;
 mod statement;
 mod tokens;
@@ -17,6 +18,7 @@ pub use constructor::{
 pub use instance::{Instance, LabelId, Operand, OperandList};
 pub use pattern::{Argument, ArgumentList, Pattern, PatternList, Relation};
 pub use raw::{Match, MatchList, Raw, RawEntry, RawList};
+pub use simple::{match_simple, simple_len};
 pub use spec::Spec;
 pub use statement::{Arm, ArmList, Piece, PieceList, Statement};
 pub use tokens::{Class, ClassId, ClassList, Field, FieldId, FieldList, Order, Tokens};
