@@ -1,4 +1,5 @@
 pub mod Numbers
+pub mod TokensWithin
 pub mod Lists
 pub mod Equations
 pub mod Known

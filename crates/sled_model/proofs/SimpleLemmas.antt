@@ -15,8 +15,8 @@ use Rattle.sled_model.specs.declared.raw.RawEntry.{RawEntry}
 use Rattle.sled_model.specs.declared.raw.RawEntry.TheVariants.{Value}
 use Rattle.sled_model.specs.declared.pattern.Pattern.{Pattern}
 use Rattle.sled_model.specs.declared.pattern.Pattern.TheVariants.{Limit, Bind, Both'}
-use Rattle.sled_model.specs.Tokens.{byte_count, bits_of, token, class_of, value_at, IsFieldOf, AreTokens}
-use Rattle.sled_model.specs.Results.{Context, Meaning, results, fold_meanings, both, both_match, agrees, one_match, has_relation, results_from, token_len, limit_results, bind_results}
+use Rattle.sled_model.specs.Tokens.{byte_count, bits_of, token, class_of, token_len, value_at, IsFieldOf, AreTokens}
+use Rattle.sled_model.specs.Results.{Context, Meaning, results, fold_meanings, both, both_match, agrees, one_match, has_relation, results_from, limit_results, bind_results}
 use Rattle.sled_model.specs.Simple.{IsOfClass, IsTerm, IsSimple, terms_of, term_fields, bare_fields, term_class, class_of_terms, field_in, term_holds, term_values, value_entries, class_len, SaysMatch, MatchesSimply}
 use Rattle.sled_model.proofs.Equations.{row_meanings-row}
 

@@ -3,8 +3,10 @@
 #![tactic(auto)]
 
 mod constructor;
+mod copies;
 mod instance;
 mod pattern;
+mod plain;
 mod raw;
 mod simple;
 mod spec;
@@ -17,6 +19,7 @@ pub use constructor::{
 };
 pub use instance::{Instance, LabelId, Operand, OperandList};
 pub use pattern::{Argument, ArgumentList, Pattern, PatternList, Relation};
+pub use plain::results;
 pub use raw::{Match, MatchList, Raw, RawEntry, RawList};
 pub use simple::{match_simple, simple_len};
 pub use spec::Spec;
