@@ -1,6 +1,8 @@
 pub mod Numbers
+pub mod TokensWithin
 pub mod Lists
 pub mod Equations
 pub mod Known
 pub mod Within
+pub mod SimpleLemmas
 pub mod Worked

@@ -1,7 +1,6 @@
 -- What a pattern means at a place of a list of bytes: its results, in order.
 use Rattle.std.specs.Prelude.{ℕ, ◌+◌, max, nat_le, nat_lt, ◌==◌, Bool, true, false, not, ◌&&◌, List, [], ◌∷◌, ◌++◌, map, filter, fold, slice_get, position, Option, Some, None, option_and_then, if◌then◌else◌}
 use Rattle.std.specs.List.{flat_map}
-use Rattle.std.specs.Option.{option_map_or}
 use Rattle.sled_model.specs.declared.tokens.Class.{Class}
 use Rattle.sled_model.specs.declared.tokens.ClassId.{ClassId}
 use Rattle.sled_model.specs.declared.tokens.FieldId.{FieldId}
@@ -22,7 +21,7 @@ use Rattle.sled_model.specs.declared.pattern.Argument.{Argument}
 use Rattle.sled_model.specs.declared.pattern.Argument.TheVariants.{Inner'}
 use Rattle.sled_model.specs.declared.pattern.Pattern.{Pattern, Row_of-Pattern, end_of-Pattern, more_of-Pattern, Row_of-Argument, end_of-Argument, more_of-Argument, items-the_row-Argument}
 use Rattle.sled_model.specs.declared.pattern.Pattern.TheVariants.{Token, Limit, Bind, Operand, Label', Both', Either', Chain', Loose', Apply', Empty}
-use Rattle.sled_model.specs.Tokens.{token, byte_count, class_of, value_at}
+use Rattle.sled_model.specs.Tokens.{token, byte_count, token_len, value_at}
 
 -- the results at an offset of a list of bytes
 abbrev pub Meaning : Type 0
@@ -60,10 +59,6 @@ one_match binds len = record { binds = binds; len = len; loose = false } ∷ []
 abbrev pub results_from : {A : Type 0} → Option A → (A → List Match) → List Match
 results_from None f = []
 results_from (Some x) f = f x
-
--- how many bytes a token of the field's class has
-abbrev pub token_len : Tokens → FieldId → ℕ
-token_len tokens f = option_map_or byte_count (class_of tokens f) 0
 
 -- where the token exists, it is the one result
 abbrev pub class_results : Tokens → ClassId → Meaning

@@ -1,5 +1,5 @@
 -- Patterns of one token: a conjunction of relations and bare fields, all of one class.
-use Rattle.std.specs.Prelude.{ℕ, ◌≡◌, ◌≢◌, Bool, true, false, List, [], ◌∷◌, length, slice_get, All, option_and_then, if◌then◌else◌}
+use Rattle.std.specs.Prelude.{ℕ, ◌≡◌, ◌≢◌, Bool, true, false, List, [], ◌∷◌, length, slice_get, All, Option, None}
 use Rattle.std.specs.List.{flat_map}
 use Rattle.std.specs.Option.{option_map_or, IsSomeAnd}
 use Rattle.sled_model.specs.declared.tokens.Class.{Class}
@@ -11,7 +11,7 @@ use Rattle.sled_model.specs.declared.raw.RawEntry.{RawEntry}
 use Rattle.sled_model.specs.declared.raw.RawEntry.TheVariants.{Value}
 use Rattle.sled_model.specs.declared.pattern.Pattern.{Pattern, items-the_row-Pattern}
 use Rattle.sled_model.specs.declared.pattern.Pattern.TheVariants.{Limit, Bind, Both'}
-use Rattle.sled_model.specs.Tokens.{byte_count, bits_of}
+use Rattle.sled_model.specs.Tokens.{byte_count, bits_of, class_of}
 use Rattle.sled_model.specs.Results.{Context, results, one_match, has_relation}
 
 -- the field is known, and its tokens are of this class
@@ -42,6 +42,31 @@ term_fields _ = []
 -- the bare fields, in order
 abbrev pub bare_fields : Pattern → List FieldId
 bare_fields pattern = flat_map term_fields (terms_of pattern)
+
+-- the class of the token that a term is about
+abbrev pub term_class : Tokens → Pattern → Option Class
+term_class tokens (Limit f relation limit) = class_of tokens f
+term_class tokens (Bind f) = class_of tokens f
+term_class tokens _ = None
+
+-- the class of the token that a conjunction is about: that of its first term
+abbrev pub class_of_terms : Tokens → List Pattern → Option Class
+class_of_terms tokens [] = None
+class_of_terms tokens (t ∷ ts) = term_class tokens t
+
+-- the field's value in a token
+abbrev pub field_in : Tokens → FieldId → ℕ → ℕ
+field_in tokens f n = option_map_or (λ (field : Field). bits_of field.lo field.hi n) (slice_get tokens.fields f.0) 0
+
+-- whether a term holds of a token
+abbrev pub term_holds : Tokens → ℕ → Pattern → Bool
+term_holds tokens n (Limit f relation limit) = has_relation relation (field_in tokens f n) limit
+term_holds tokens n _ = true
+
+-- the value that a term reads from a token
+abbrev pub term_values : Tokens → ℕ → Pattern → List ℕ
+term_values tokens n (Bind f) = field_in tokens f n ∷ []
+term_values tokens n _ = []
 
 -- the entries of fields that were read at offset 0 with these values
 abbrev pub value_entries : List FieldId → List ℕ → List RawEntry

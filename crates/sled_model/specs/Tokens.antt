@@ -1,6 +1,6 @@
 -- Tokens of a list of bytes, and the fields that are read from them.
 use Rattle.std.specs.Prelude.{ℕ, ◌≡◌, ◌≤◌, ◌<◌, ◌⊎◌, ◌+◌, ◌-◌, ◌*◌, ◌/◌, ◌%◌, ◌^◌, nat_le, List, length, take, drop, reverse, fold, slice_get, All, Option, Some, None, option_and_then, if◌then◌else◌}
-use Rattle.std.specs.Option.{option_map, IsSomeAnd}
+use Rattle.std.specs.Option.{option_map, option_map_or, IsSomeAnd}
 use Rattle.sled_model.specs.declared.tokens.Order.{Order}
 use Rattle.sled_model.specs.declared.tokens.Order.TheVariants.{Big, Little}
 use Rattle.sled_model.specs.declared.tokens.Class.{Class}
@@ -38,6 +38,10 @@ width_of field = field.hi - field.lo + 1
 -- the class of the field's token
 abbrev pub class_of : Tokens → FieldId → Option Class
 class_of tokens f = option_and_then (λ (field : Field). slice_get tokens.classes field.class.0) (slice_get tokens.fields f.0)
+
+-- how many bytes a token of the field's class has
+abbrev pub token_len : Tokens → FieldId → ℕ
+token_len tokens f = option_map_or byte_count (class_of tokens f) 0
 
 -- the field's value in the token at offset i, where the token exists
 abbrev pub value_at : Tokens → FieldId → List ℕ → ℕ → Option ℕ

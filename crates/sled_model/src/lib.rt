@@ -3,9 +3,12 @@
 #![tactic(auto)]
 
 mod constructor;
+mod copies;
 mod instance;
 mod pattern;
+mod plain;
 mod raw;
+mod simple;
 mod spec;
 mod statement;
 mod tokens;
@@ -16,7 +19,9 @@ pub use constructor::{
 };
 pub use instance::{Instance, LabelId, Operand, OperandList};
 pub use pattern::{Argument, ArgumentList, Pattern, PatternList, Relation};
+pub use plain::results;
 pub use raw::{Match, MatchList, Raw, RawEntry, RawList};
+pub use simple::{match_simple, simple_len};
 pub use spec::Spec;
 pub use statement::{Arm, ArmList, Piece, PieceList, Statement};
 pub use tokens::{Class, ClassId, ClassList, Field, FieldId, FieldList, Order, Tokens};

@@ -1,4 +1,7 @@
 // Patterns.
+ghost use Rattle.std.specs.Prelude.{◌≡◌};
+ghost use Rattle.sled_model.specs.Results.{has_relation};
+
 use crate::{ClassId, ConstructorId, FieldId};
 use sqlite_items::{Boxed, Items};
 
@@ -11,6 +14,22 @@ pub enum Relation {
     AtMost,
     Above,
     AtLeast,
+}
+
+impl Relation {
+    /// Whether the value has the relation to the limit.
+    pub fn holds(self, value: u32, limit: u32) -> bool
+        ensures { result ≡ has_relation self value limit }
+    {
+        match self {
+            Relation::Equal => value == limit,
+            Relation::Differs => value != limit,
+            Relation::Below => value < limit,
+            Relation::AtMost => value <= limit,
+            Relation::Above => value > limit,
+            Relation::AtLeast => value >= limit,
+        }
+    }
 }
 
 /// What bytes have to be. No list of a `Both`, `Either` or `Chain` is empty.

@@ -1,6 +1,6 @@
 // Token classes and fields.
 ghost use Rattle.std.specs.Prelude.{◌≡◌, ◌≤◌, ◌<◌, ◌+◌, ◌/◌, ◌^◌, ◌++◌, ◌∷◌, [], length, slice_get, IfOk, OnOk, OnErr, IfSome};
-ghost use Rattle.sled_model.specs.Tokens.{number_of, in_order, byte_count, token, bits_of, value_at, IsWidth, IsFieldOf, AreTokens};
+ghost use Rattle.sled_model.specs.Tokens.{number_of, in_order, byte_count, token, bits_of, class_of, token_len, value_at, IsWidth, IsFieldOf, AreTokens};
 
 use sled_base::NoMemory;
 use sqlite_items::Items;
@@ -106,6 +106,23 @@ impl Tokens {
         ensures { result ≡ slice_get self.now.fields id.0 }
     {
         self.fields.get(id.0 as usize).copied()
+    }
+
+    /// The class of the field's token, or None where there is no such field.
+    pub(crate) fn class_of(&self, field: FieldId) -> Option<Class>
+        ensures { result ≡ class_of self.now field }
+    {
+        self.class(self.field(field)?.class)
+    }
+
+    /// How many bytes a token of the field's class has, or 0 where there is no such field.
+    pub(crate) fn token_len(&self, field: FieldId) -> usize
+        ensures { result ≡ token_len self.now field }
+    {
+        match self.class_of(field) {
+            Some(class) => class.byte_count(),
+            None => 0,
+        }
     }
 
     /// The value of the field in the token at the offset `at` of the window. For a known field it is None exactly where the

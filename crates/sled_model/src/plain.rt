@@ -1,0 +1,335 @@
+// The results of a pattern by the definition, step for step.
+ghost use Rattle.std.specs.Prelude.{◌≡◌, ◌+◌, ◌^◌, ◌<◌, ◌≤◌, ◌≢◌, ◌++◌, length, map, filter, All, IfOk, OnOk, IfSome, OnSome};
+ghost use Rattle.std.specs.List.{flat_map, fold};
+ghost use Rattle.sled_model.specs.Tokens.{AreTokens};
+ghost use Rattle.sled_model.specs.Results.{alone, results as results_of, fold_meanings, chain, both, either, chain_match, agrees as agrees_with, both_match, one_match, class_results as class_results_of, limit_results as limit_results_of, bind_results as bind_results_of, label_match, loose_match};
+
+use crate::copies::copy_entries;
+use crate::tokens::token_at;
+use crate::{ClassId, FieldId, Match, Pattern, RawEntry, Relation, Tokens};
+use sled_base::NoMemory;
+use sqlite_items::Items;
+use std::alloc::Global;
+
+fn agrees(a: &Match, b: &Match) -> bool
+    ensures { result ≡ agrees_with a.now b.now }
+{
+    match (a.loose, b.loose) {
+        (true, true) => true,
+        (true, false) => a.len <= b.len,
+        (false, true) => b.len <= a.len,
+        (false, false) => a.len == b.len,
+    }
+}
+
+fn one(alloc: Global, binds: Items<RawEntry>, len: usize) -> Result<Items<Match>, NoMemory>
+    ensures { IfOk result (λ found. found ≡ one_match binds len) }
+{
+    let mut found = Items::new(alloc);
+    found.push(Match {
+        binds,
+        len,
+        loose: false,
+    })?;
+    Ok(found)
+}
+
+fn class_results(
+    alloc: Global,
+    tokens: &Tokens,
+    class: ClassId,
+    window: &[u8],
+    at: usize,
+) -> Result<Items<Match>, NoMemory>
+    requires { AreTokens tokens.now }
+    ensures value { IfOk result (λ found. found ≡ class_results_of tokens.now class window.now at) }
+    ensures within { IfOk result (All (λ a. at + a.len ≤ length window.now)) }
+{
+    let Some(class) = tokens.class(class) else {
+        return Ok(Items::new(alloc));
+    };
+    match token_at(class, window, at) {
+        None => Ok(Items::new(alloc)),
+        Some(_) => one(alloc, Items::new(alloc), class.byte_count()),
+    }
+}
+
+fn limit_results(
+    alloc: Global,
+    tokens: &Tokens,
+    field: FieldId,
+    relation: Relation,
+    limit: u32,
+    window: &[u8],
+    at: usize,
+) -> Result<Items<Match>, NoMemory>
+    requires { AreTokens tokens.now }
+    ensures value { IfOk result (λ found. found ≡ limit_results_of tokens.now field relation limit window.now at) }
+    ensures within { IfOk result (All (λ a. at + a.len ≤ length window.now)) }
+{
+    match tokens.field_value(field, window, at) {
+        Some(value) if relation.holds(value, limit) => {
+            one(alloc, Items::new(alloc), tokens.token_len(field))
+        }
+        _ => Ok(Items::new(alloc)),
+    }
+}
+
+fn bind_results(
+    alloc: Global,
+    tokens: &Tokens,
+    field: FieldId,
+    window: &[u8],
+    at: usize,
+) -> Result<Items<Match>, NoMemory>
+    requires tokens { AreTokens tokens.now }
+    requires at { at < 256 }
+    ensures value { IfOk result (λ found. found ≡ bind_results_of tokens.now field window.now at) }
+    ensures within { IfOk result (All (λ a. at + a.len ≤ length window.now)) }
+{
+    let Some(value) = tokens.field_value(field, window, at) else {
+        return Ok(Items::new(alloc));
+    };
+    let mut binds = Items::new(alloc);
+    binds.push(RawEntry::Value {
+        field,
+        value,
+        at: at as u8,
+    })?;
+    one(alloc, binds, tokens.token_len(field))
+}
+
+/// A copy of the bindings of both, in order.
+fn both_binds(alloc: Global, a: &Match, b: &Match) -> Result<Items<RawEntry>, NoMemory>
+    ensures { IfOk result (λ binds. binds ≡ a.now.binds ++ b.now.binds) }
+{
+    let mut binds = copy_entries(alloc, a.binds.as_slice())?;
+    binds.append(copy_entries(alloc, b.binds.as_slice())?)?;
+    Ok(binds)
+}
+
+fn labelled(alloc: Global, label: u32, at: usize, inner: &[Match]) -> Result<Items<Match>, NoMemory>
+    requires { at < 256 }
+    ensures { IfOk result (λ found. found ≡ map (label_match label at) inner.now) }
+{
+    let mut found = Items::new(alloc);
+    for a in inner {
+        let mut binds = Items::new(alloc);
+        binds.push(RawEntry::Mark {
+            label,
+            at: at as u8,
+        })?;
+        binds.append(copy_entries(alloc, a.binds.as_slice())?)?;
+        found.push(Match {
+            binds,
+            len: a.len,
+            loose: a.loose,
+        })?;
+    }
+    Ok(found)
+}
+
+fn loosened(alloc: Global, inner: &[Match]) -> Result<Items<Match>, NoMemory>
+    ensures { IfOk result (λ found. found ≡ map loose_match inner.now) }
+{
+    let mut found = Items::new(alloc);
+    for a in inner {
+        found.push(Match {
+            binds: copy_entries(alloc, a.binds.as_slice())?,
+            len: a.len,
+            loose: true,
+        })?;
+    }
+    Ok(found)
+}
+
+/// Appends a, joined with each of the seconds.
+fn push_joined(
+    alloc: Global,
+    found: &mut Items<Match>,
+    a: &Match,
+    seconds: &[Match],
+) -> Result<(), NoMemory>
+    requires { All (λ b. a.now.len + b.len < 2 ^ 63) seconds.now }
+    ensures { OnOk result (found.new ≡ found.old ++ map (chain_match a.now) seconds.now) }
+{
+    for b in seconds {
+        found.push(Match {
+            binds: both_binds(alloc, a, b)?,
+            len: a.len + b.len,
+            loose: b.loose,
+        })?;
+    }
+    Ok(())
+}
+
+/// Appends a, met with each of the seconds that agrees.
+fn push_met(
+    alloc: Global,
+    found: &mut Items<Match>,
+    a: &Match,
+    seconds: &[Match],
+) -> Result<(), NoMemory>
+    ensures { OnOk result (found.new ≡ found.old ++ map (both_match a.now) (filter (agrees_with a.now) seconds.now)) }
+{
+    for b in seconds {
+        if agrees(a, b) {
+            found.push(Match {
+                binds: both_binds(alloc, a, b)?,
+                len: a.len.max(b.len),
+                loose: a.loose && b.loose,
+            })?;
+        }
+    }
+    Ok(())
+}
+
+/// Each of the firsts, met with each result of the part that agrees with it.
+fn all_met(alloc: Global, firsts: &[Match], seconds: &[Match]) -> Result<Items<Match>, NoMemory>
+    ensures { IfOk result (λ found. found ≡ flat_map (λ a. map (both_match a) (filter (agrees_with a) seconds.now)) firsts.now) }
+{
+    let mut found = Items::new(alloc);
+    for a in firsts {
+        push_met(alloc, &mut found, a, seconds)?;
+    }
+    Ok(found)
+}
+
+/// Each of the firsts, joined with each result of the part just after it.
+#[cycle(results)]
+fn all_joined(
+    alloc: Global,
+    tokens: &Tokens,
+    firsts: &[Match],
+    part: &Pattern,
+    window: &[u8],
+    at: usize,
+) -> Result<Items<Match>, NoMemory>
+    requires tokens { AreTokens tokens.now }
+    requires window { length window.now < 256 }
+    requires firsts { All (λ a. at + a.len ≤ length window.now) firsts.now }
+    ensures value { IfOk result (λ found. found ≡ flat_map (λ a. map (chain_match a) (results_of (alone tokens.now) part.now window.now (at + a.len))) firsts.now) }
+    ensures within { IfOk result (All (λ a. at + a.len ≤ length window.now)) }
+{
+    let mut found = Items::new(alloc);
+    for a in firsts {
+        let seconds = results(alloc, tokens, part, window, at + a.len)?;
+        push_joined(alloc, &mut found, a, seconds.as_slice())?;
+    }
+    Ok(found)
+}
+
+#[cycle(results)]
+fn chain_results(
+    alloc: Global,
+    tokens: &Tokens,
+    parts: &[Pattern],
+    window: &[u8],
+    at: usize,
+) -> Result<Items<Match>, NoMemory>
+    requires tokens { AreTokens tokens.now }
+    requires window { length window.now < 256 }
+    requires at { at ≤ length window.now }
+    ensures value { IfOk result (λ found. found ≡ fold_meanings chain (map (results_of (alone tokens.now)) parts.now) window.now at) }
+    ensures within { IfOk result (All (λ a. at + a.len ≤ length window.now)) }
+{
+    let Some((first, rest)) = parts.split_first() else {
+        return Ok(Items::new(alloc));
+    };
+    let mut found = results(alloc, tokens, first, window, at)?;
+    for part in rest {
+        found = all_joined(alloc, tokens, found.as_slice(), part, window, at)?;
+    }
+    Ok(found)
+}
+
+#[cycle(results)]
+fn both_results(
+    alloc: Global,
+    tokens: &Tokens,
+    parts: &[Pattern],
+    window: &[u8],
+    at: usize,
+) -> Result<Items<Match>, NoMemory>
+    requires tokens { AreTokens tokens.now }
+    requires window { length window.now < 256 }
+    requires at { at ≤ length window.now }
+    ensures value { IfOk result (λ found. found ≡ fold_meanings both (map (results_of (alone tokens.now)) parts.now) window.now at) }
+    ensures within { IfOk result (All (λ a. at + a.len ≤ length window.now)) }
+{
+    let Some((first, rest)) = parts.split_first() else {
+        return Ok(Items::new(alloc));
+    };
+    let mut found = results(alloc, tokens, first, window, at)?;
+    for part in rest {
+        let seconds = results(alloc, tokens, part, window, at)?;
+        found = all_met(alloc, found.as_slice(), seconds.as_slice())?;
+    }
+    Ok(found)
+}
+
+#[cycle(results)]
+fn either_results(
+    alloc: Global,
+    tokens: &Tokens,
+    parts: &[Pattern],
+    window: &[u8],
+    at: usize,
+) -> Result<Items<Match>, NoMemory>
+    requires tokens { AreTokens tokens.now }
+    requires window { length window.now < 256 }
+    requires at { at ≤ length window.now }
+    ensures value { IfOk result (λ found. found ≡ fold_meanings either (map (results_of (alone tokens.now)) parts.now) window.now at) }
+    ensures within { IfOk result (All (λ a. at + a.len ≤ length window.now)) }
+{
+    let Some((first, rest)) = parts.split_first() else {
+        return Ok(Items::new(alloc));
+    };
+    let mut found = results(alloc, tokens, first, window, at)?;
+    for part in rest {
+        found.append(results(alloc, tokens, part, window, at)?)?;
+    }
+    Ok(found)
+}
+
+/// The results of a pattern at the offset `at`, in order, where no constructor is known: there an operand and an application
+/// have none. The window has fewer than 256 bytes, so that each offset fits in an entry.
+#[tactic(auto, using(crate::proofs::Equations::results_laws))]
+#[cycle(results)]
+pub fn results(
+    alloc: Global,
+    tokens: &Tokens,
+    pattern: &Pattern,
+    window: &[u8],
+    at: usize,
+) -> Result<Items<Match>, NoMemory>
+    requires tokens { AreTokens tokens.now }
+    requires window { length window.now < 256 }
+    requires at { at ≤ length window.now }
+    ensures value { IfOk result (λ found. found ≡ results_of (alone tokens.now) pattern.now window.now at) }
+    ensures within { IfOk result (All (λ a. at + a.len ≤ length window.now)) }
+{
+    match pattern {
+        Pattern::Token(class) => class_results(alloc, tokens, *class, window, at),
+        Pattern::Limit {
+            field,
+            relation,
+            value,
+        } => limit_results(alloc, tokens, *field, *relation, *value, window, at),
+        Pattern::Bind(field) => bind_results(alloc, tokens, *field, window, at),
+        Pattern::Operand(_) => Ok(Items::new(alloc)),
+        Pattern::Label(label, inner) => {
+            let found = results(alloc, tokens, inner.get(), window, at)?;
+            labelled(alloc, *label, at, found.as_slice())
+        }
+        Pattern::Both(parts) => both_results(alloc, tokens, parts.as_slice(), window, at),
+        Pattern::Either(parts) => either_results(alloc, tokens, parts.as_slice(), window, at),
+        Pattern::Chain(parts) => chain_results(alloc, tokens, parts.as_slice(), window, at),
+        Pattern::Loose(inner) => {
+            let found = results(alloc, tokens, inner.get(), window, at)?;
+            loosened(alloc, found.as_slice())
+        }
+        Pattern::Apply { .. } => Ok(Items::new(alloc)),
+        Pattern::Empty => one(alloc, Items::new(alloc), 0),
+    }
+}
