@@ -13,7 +13,7 @@ mod piece;
 #[cfg(test)]
 mod tests;
 
-pub use number::number_value;
+pub use number::{number_in_range, number_value};
 use piece::{Stop, gap, piece};
 use sled_base::{MAX_TEXT, Span};
 use std::alloc::{AllocFailed, Global};

@@ -41,7 +41,7 @@ fn digit(b: u8) -> u64
 fn value(base: u64, digits: &[u8]) -> Option<u32>
     requires low { 1 ≤ base }
     requires high { base ≤ 16 }
-    ensures { result ≡ spec.in_range (digits_value base digits.now) }
+    ensures { result ≡ meaning.within_limit (digits_value base digits.now) }
 {
     let mut value = 0;
     for d in digits {
@@ -53,9 +53,11 @@ fn value(base: u64, digits: &[u8]) -> Option<u32>
     Some(value as u32)
 }
 
+/// The number that the bytes of a Number write, in decimal or behind `0x` in hexadecimal digits: None exactly where it is above
+/// 4,294,967,295.
 #[tactic(auto, unfolding(crate::specs::Spelled::number_value))]
-fn value_of(number: &[u8]) -> Option<u32>
-    ensures { result ≡ spec.in_range (meaning.number_value number.now) }
+pub fn number_in_range(number: &[u8]) -> Option<u32>
+    ensures { result ≡ meaning.within_limit (meaning.number_value number.now) }
 {
     match number.strip_prefix(b"0x") {
         Some(digits) => value(16, digits),
@@ -69,7 +71,7 @@ pub fn cut(text: &[u8]) -> Result<(Kind, usize), Stop>
     ensures { result ≡ spec.number_cut text.now }
 {
     let len = number_len(text);
-    match value_of(&text[..len]) {
+    match number_in_range(&text[..len]) {
         Some(_) => Ok((Kind::Number, len)),
         None => Err(Stop::NumberTooBig),
     }
@@ -80,5 +82,5 @@ pub fn number_value(spelling: &[u8]) -> u32
     requires { meaning.number_value spelling.now ≤ MAX_NUMBER }
     ensures { result ≡ meaning.number_value spelling.now }
 {
-    value_of(spelling).unwrap()
+    number_in_range(spelling).unwrap()
 }

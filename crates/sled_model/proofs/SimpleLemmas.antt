@@ -1,5 +1,5 @@
 -- The results of a conjunction of terms of one class.
-use Rattle.std.proofs.Common.{◌≡◌, ◌≢◌, ℕ, suc, ◌+◌, ◌<◌, ◌≤◌, max, Bool, true, false, cond, ◌&&◌, List, [], ◌∷◌, ◌++◌, length, map, filter, take, drop, get_or, All, slice_get, Option, Some, None, refl, sym, ap, ◌∙◌, subst, eqb, eq-eqb, option_and_then, arith, length-append}
+use Rattle.std.proofs.Common.{◌≡◌, ◌≢◌, ℕ, suc, ◌+◌, ◌<◌, ◌≤◌, max, Bool, true, false, cond, ◌&&◌, List, [], ◌∷◌, ◌++◌, length, map, filter, take, drop, get_or, All, slice_get, Option, Some, None, IsSome, refl, sym, ap, ◌∙◌, subst, eqb, eq-eqb, option_and_then, arith, length-append}
 use Rattle.std.proofs.lemmas.List.{append_assoc, append-nil}
 use Rattle.std.proofs.lemmas.List.Elements.{All-head, All-tail}
 use Rattle.std.proofs.lemmas.Option.{get_or_from_slice_get, slice_get_within}
@@ -14,9 +14,9 @@ use Rattle.sled_model.specs.declared.raw.Match.{Match}
 use Rattle.sled_model.specs.declared.raw.RawEntry.{RawEntry}
 use Rattle.sled_model.specs.declared.raw.RawEntry.TheVariants.{Value}
 use Rattle.sled_model.specs.declared.pattern.Pattern.{Pattern}
-use Rattle.sled_model.specs.declared.pattern.Pattern.TheVariants.{Limit, Bind, Both'}
+use Rattle.sled_model.specs.declared.pattern.Pattern.TheVariants.{Token, Limit, Bind, Both'}
 use Rattle.sled_model.specs.Tokens.{byte_count, bits_of, token, class_of, token_len, value_at, IsFieldOf, AreTokens}
-use Rattle.sled_model.specs.Results.{Context, Meaning, results, fold_meanings, both, both_match, agrees, one_match, has_relation, results_from, limit_results, bind_results}
+use Rattle.sled_model.specs.Results.{Context, Meaning, results, fold_meanings, both, both_match, agrees, one_match, has_relation, results_from, class_results, limit_results, bind_results}
 use Rattle.sled_model.specs.Simple.{IsOfClass, IsTerm, IsSimple, terms_of, term_fields, bare_fields, term_class, class_of_terms, field_in, term_holds, term_values, value_entries, class_len, SaysMatch, MatchesSimply}
 use Rattle.sled_model.proofs.Equations.{row_meanings-row}
 
@@ -92,6 +92,7 @@ module _ (tokens : Tokens) (class : ClassId) (cl : Class) (known : slice_get tok
   token_len-known f h = ap (λ (o : Option Class). option_map_or byte_count o 0) (field_class f h)
 
   pub term_class-known : (t : Pattern) → IsTerm tokens class t → term_class tokens t ≡ Some cl
+  term_class-known (Token c) h = ap (λ (k : ClassId). slice_get tokens.classes k.0) h.0 ∙ known
   term_class-known (Limit f relation limit) h = field_class f h
   term_class-known (Bind f) h = field_class f h
   term_class-known _ h = absurd h
@@ -113,6 +114,10 @@ module _ (tokens : Tokens) (class : ClassId) (cl : Class) (known : slice_get tok
     module _ (cx : Context) (same : cx.tokens ≡ tokens) where
       term_results : (n : ℕ) → token cl bytes 0 ≡ Some n → (t : Pattern) → IsTerm tokens class t
           → results cx t bytes 0 ≡ cond (term_holds tokens n t) (one_match (value_entries (term_fields t) (term_values tokens n t)) (byte_count cl)) []
+      term_results n e (Token c) h =
+          ap (λ ts. class_results ts c bytes 0) same
+          ∙ ap (λ o. results_from o (λ (k : Class). results_from (token k bytes 0) (λ m. one_match [] (byte_count k)))) (term_class-known (Token c) h)
+          ∙ ap (λ o. results_from o (λ (m : ℕ). one_match [] (byte_count cl))) e
       term_results n e (Limit f relation limit) h =
           ap (λ ts. limit_results ts f relation limit bytes 0) same
           ∙ ap (λ v. results_from v (λ value. cond (has_relation relation value limit) (one_match [] (token_len tokens f)) [])) (value_at-known f h ∙ ap (option_map (field_in tokens f)) e)
@@ -124,6 +129,10 @@ module _ (tokens : Tokens) (class : ClassId) (cl : Class) (known : slice_get tok
       term_results n e _ h = absurd h
 
       term_lacking : token cl bytes 0 ≡ None → (t : Pattern) → IsTerm tokens class t → results cx t bytes 0 ≡ []
+      term_lacking e (Token c) h =
+          ap (λ ts. class_results ts c bytes 0) same
+          ∙ ap (λ o. results_from o (λ (k : Class). results_from (token k bytes 0) (λ m. one_match [] (byte_count k)))) (term_class-known (Token c) h)
+          ∙ ap (λ o. results_from o (λ (m : ℕ). one_match [] (byte_count cl))) e
       term_lacking e (Limit f relation limit) h =
           ap (λ ts. limit_results ts f relation limit bytes 0) same
           ∙ ap (λ v. results_from v (λ value. cond (has_relation relation value limit) (one_match [] (token_len tokens f)) [])) (value_at-known f h ∙ ap (option_map (field_in tokens f)) e)
@@ -191,6 +200,10 @@ class_known tokens class f sound h =
     (cl.0, ap (λ (k : ClassId). slice_get tokens.classes k.0) (sym field.1.1) ∙ cl.1.0)
 
 class_of_term : (tokens : Tokens) (class : ClassId) → AreTokens tokens → (t : Pattern) → IsTerm tokens class t → (cl : Class) × (slice_get tokens.classes class.0 ≡ Some cl)
+class_of_term tokens class sound (Token c) h = some_class (slice_get tokens.classes class.0) h.1 where
+  some_class : (o : Option Class) → IsSome o → (cl : Class) × (o ≡ Some cl)
+  some_class None h = cc
+  some_class (Some cl) h = (cl, refl)
 class_of_term tokens class sound (Limit f relation limit) h = class_known tokens class f sound h
 class_of_term tokens class sound (Bind f) h = class_known tokens class f sound h
 class_of_term tokens class sound _ h = absurd h

@@ -1,5 +1,5 @@
--- Patterns of one token: a conjunction of relations and bare fields, all of one class.
-use Rattle.std.specs.Prelude.{ℕ, ◌≡◌, ◌≢◌, Bool, true, false, List, [], ◌∷◌, length, slice_get, All, Option, None}
+-- Patterns of one token: a conjunction of a class, relations on its fields and bare fields of it.
+use Rattle.std.specs.Prelude.{ℕ, ◌≡◌, ◌≢◌, Bool, true, false, List, [], ◌∷◌, length, slice_get, All, Option, None, IsSome}
 use Rattle.std.specs.List.{flat_map}
 use Rattle.std.specs.Option.{option_map_or, IsSomeAnd}
 use Rattle.sled_model.specs.declared.tokens.Class.{Class}
@@ -10,7 +10,7 @@ use Rattle.sled_model.specs.declared.tokens.Tokens.{Tokens}
 use Rattle.sled_model.specs.declared.raw.RawEntry.{RawEntry}
 use Rattle.sled_model.specs.declared.raw.RawEntry.TheVariants.{Value}
 use Rattle.sled_model.specs.declared.pattern.Pattern.{Pattern, items-the_row-Pattern}
-use Rattle.sled_model.specs.declared.pattern.Pattern.TheVariants.{Limit, Bind, Both'}
+use Rattle.sled_model.specs.declared.pattern.Pattern.TheVariants.{Token, Limit, Bind, Both'}
 use Rattle.sled_model.specs.Tokens.{byte_count, bits_of, class_of}
 use Rattle.sled_model.specs.Results.{Context, results, one_match, has_relation}
 
@@ -18,8 +18,9 @@ use Rattle.sled_model.specs.Results.{Context, results, one_match, has_relation}
 abbrev pub IsOfClass : Tokens → ClassId → FieldId → Type 0
 IsOfClass tokens class f = IsSomeAnd (slice_get tokens.fields f.0) (λ field. field.class ≡ class)
 
--- a relation on a field of the class, or a bare field of it
+-- a token of the class, a relation on a field of it, or a bare field of it
 abbrev pub IsTerm : Tokens → ClassId → Pattern → Type 0
+IsTerm tokens class (Token c) = (c ≡ class) × IsSome (slice_get tokens.classes class.0)
 IsTerm tokens class (Limit f relation limit) = IsOfClass tokens class f
 IsTerm tokens class (Bind f) = IsOfClass tokens class f
 IsTerm tokens class _ = ⊥
@@ -45,6 +46,7 @@ bare_fields pattern = flat_map term_fields (terms_of pattern)
 
 -- the class of the token that a term is about
 abbrev pub term_class : Tokens → Pattern → Option Class
+term_class tokens (Token c) = slice_get tokens.classes c.0
 term_class tokens (Limit f relation limit) = class_of tokens f
 term_class tokens (Bind f) = class_of tokens f
 term_class tokens _ = None

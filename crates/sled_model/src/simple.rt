@@ -10,7 +10,7 @@ use crate::{Class, FieldId, Pattern, Tokens};
 use sled_base::NoMemory;
 use std::slice;
 
-/// Whether the pattern, a conjunction of relations and bare fields of one class, matches at the start of the window. `values` is
+/// Whether the pattern, a conjunction of one class, relations on its fields and bare fields, matches at the start of the window. `values` is
 /// cleared first; where it matches, it then holds the values of the bare fields, in order, and else nothing is said of it.
 pub fn match_simple(
     tokens: &Tokens,
@@ -30,7 +30,7 @@ pub fn match_simple(
     }
 }
 
-/// How many bytes a match of the pattern has, a conjunction of relations and bare fields of one class.
+/// How many bytes a match of the pattern has, a conjunction of one class, relations on its fields and bare fields.
 pub fn simple_len(tokens: &Tokens, pattern: &Pattern) -> usize
     requires sound { AreTokens tokens.now }
     requires simple { (class : ClassId) × IsSimple tokens.now class pattern.now }
@@ -70,6 +70,7 @@ fn term_class(tokens: &Tokens, term: &Pattern) -> Option<Class>
     ensures { result ≡ term_class tokens.now term.now }
 {
     match term {
+        Pattern::Token(class) => tokens.class(*class),
         Pattern::Limit { field, .. } | Pattern::Bind(field) => tokens.class_of(*field),
         _ => None,
     }

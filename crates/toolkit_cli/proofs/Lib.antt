@@ -1,6 +1,6 @@
 pub mod ActionLemmas
+pub mod DescriptionLemmas
 pub mod ListLemmas
 pub mod NamesLemmas
-pub mod NumberLemmas
 pub mod TermLemmas
 pub mod TokenLemmas

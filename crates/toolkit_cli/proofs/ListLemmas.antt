@@ -1,5 +1,6 @@
 -- A list from a place on.
-use Rattle.std.proofs.Common.{◌≡◌, ℕ, zero, suc, ◌+◌, ◌<◌, List, [], ◌∷◌, length, drop, get_or, drop-cons, add-one, subst, Some, All, slice_get}
+use Rattle.std.proofs.Common.{◌≡◌, ℕ, zero, suc, ◌+◌, ◌<◌, List, [], ◌∷◌, ◌++◌, length, take, drop, get_or, drop-cons, add-one, sym, ap, ◌∙◌, subst, Some, All, slice_get}
+use Rattle.std.proofs.lemmas.List.{take_more, take-append-drop}
 use Rattle.std.proofs.lemmas.List.Elements.{All-head, All-tail}
 
 pub drop-here : {A : Type 0} (xs : List A) (i : ℕ) (d : A) → i < length xs → drop i xs ≡ get_or xs i d ∷ drop (i + 1) xs
@@ -10,3 +11,11 @@ pub All-slice_get : {A : Type 0} (P : A → Type 0) (xs : List A) (i : ℕ) (x :
 All-slice_get P [] i x all is = cc
 All-slice_get P (y ∷ xs) zero x all is = let same : y ≡ x = cc in subst P same (All-head P y xs all)
 All-slice_get P (y ∷ xs) (suc i) x all is = All-slice_get P xs i x (All-tail P y xs all) is
+
+-- one element more in front
+pub take-here : {A : Type 0} (xs : List A) (i : ℕ) (x : A) → i < length xs → x ≡ get_or xs i x → take (i + 1) xs ≡ take i xs ++ x ∷ []
+take-here xs i x h is = take_more xs i x h ∙ ap (λ y. take i xs ++ y ∷ []) (sym is)
+
+-- the whole around an element
+pub around-here : {A : Type 0} (xs : List A) (i : ℕ) (x : A) → i < length xs → x ≡ get_or xs i x → xs ≡ take i xs ++ x ∷ drop (i + 1) xs
+around-here xs i x h is = sym (take-append-drop i xs) ∙ ap (λ r. take i xs ++ r) (drop-here xs i x h ∙ ap (λ y. y ∷ drop (i + 1) xs) (sym is))

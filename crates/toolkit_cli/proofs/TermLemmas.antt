@@ -1,5 +1,5 @@
 -- Numbers that are compared with fields.
-use Rattle.std.proofs.Common.{◌≡◌, ℕ, ◌+◌, ◌-◌, ◌^◌, ◌<◌, ◌≤◌, Bool, true, Some, None, slice_get, refl, sym, ap, ◌∙◌, subst, arith}
+use Rattle.std.proofs.Common.{◌≡◌, ℕ, ◌+◌, ◌-◌, ◌^◌, ◌<◌, ◌≤◌, Bool, true, false, cond, Some, None, slice_get, refl, sym, ap, ◌∙◌, subst, arith}
 use Rattle.std.specs.Prelude.{Option, nat_lt}
 use Rattle.std.specs.Option.{option_map_or}
 use Rattle.std.proofs.lemmas.Bool.Decides.{nat_tests}
@@ -7,6 +7,7 @@ use Rattle.sled_model.specs.declared.tokens.Field.{Field}
 use Rattle.sled_model.specs.declared.tokens.Tokens.{Tokens}
 use Rattle.sled_model.specs.declared.spec.Spec.{Spec}
 use Rattle.sled_model.specs.Tokens.{AreTokens}
+use Rattle.sled_lexer.specs.Spelled.{within_limit}
 use Rattle.toolkit_cli.specs.Terms.{value_count}
 use Rattle.toolkit_cli.proofs.TokenLemmas.{field_bits, power_small}
 
@@ -29,3 +30,19 @@ fits_small spec k n o sound is h =
     let less = lt_below n (value_count spec k) below in
     let count = value_count-le spec k sound in
     omega arith
+
+none_large : (n : ℕ) → within_limit n ≡ None → 4294967295 < n
+none_large n h = by_test (nat_lt 4294967295 n) refl h where
+  by_test : (t : Bool) → nat_lt 4294967295 n ≡ t → cond t None (Some n) ≡ None → 4294967295 < n
+  by_test true is e = lt_below 4294967295 n is
+  by_test false is e = cc
+
+below_false : (a b : ℕ) → b ≤ a → nat_lt a b ≡ false
+below_false a b h = grind (arith, nat_tests)
+
+-- a number that is no u32 fits no field
+pub large_unfit : (spec : Spec) (k n : ℕ) (o : Option ℕ) → AreTokens spec.tokens → o ≡ Some k → within_limit n ≡ None → option_map_or (λ j. nat_lt n (value_count spec j)) o true ≡ false
+large_unfit spec k n o sound is h =
+    let large = none_large n h in
+    let count = value_count-le spec k sound in
+    ap (λ (x : Option ℕ). option_map_or (λ j. nat_lt n (value_count spec j)) x true) is ∙ below_false n (value_count spec k) (omega arith)

@@ -6,3 +6,4 @@ pub mod Meaning
 pub mod Conditions
 pub mod Built
 pub mod Steps
+pub mod Sections

@@ -1,6 +1,6 @@
 -- What declarations and arms stand for, as far as they are built.
 use Rattle.std.specs.Prelude.{ℕ, Bool, List, [], ◌∷◌, map, None, unwrap_or, if◌then◌else◌}
-use Rattle.sled_lexer.specs.Cut.{number_value}
+use Rattle.sled_lexer.specs.Spelled.{number_value}
 use Rattle.sled_parser.specs.declared.tree.Decl.{Decl}
 use Rattle.sled_parser.specs.declared.tree.Decl.TheVariants as decl
 use Rattle.sled_parser.specs.declared.tree.FieldTree.{FieldTree}

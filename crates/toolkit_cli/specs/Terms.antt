@@ -1,8 +1,8 @@
 -- The terms of an arm's pattern, and what each means in a description. Built so far are words and equalities with `&` between.
-use Rattle.std.specs.Prelude.{ℕ, ◌+◌, ◌-◌, ◌^◌, Bool, true, false, nat_lt, List, [], ◌∷◌, ◌++◌, length, Option, Some, None, is_some, option_map, option_and_then, slice_get, if◌then◌else◌}
+use Rattle.std.specs.Prelude.{ℕ, ◌+◌, ◌-◌, ◌^◌, Bool, true, false, ◌&&◌, nat_lt, List, [], ◌∷◌, ◌++◌, length, Option, Some, None, is_some, option_map, option_and_then, slice_get, if◌then◌else◌}
 use Rattle.std.specs.List.{list_all, flat_map, filter_map}
 use Rattle.std.specs.Option.{option_map_or}
-use Rattle.sled_lexer.specs.Cut.{number_value}
+use Rattle.sled_lexer.specs.Spelled.{number_value}
 use Rattle.sled_parser.specs.declared.tree.PatternTree.{PatternTree, out-PatternTree}
 use Rattle.sled_parser.specs.declared.tree.PatternTree.TheOpen.{PatternTree-F}
 use Rattle.sled_parser.specs.declared.tree.PatternTree.TheOpen as layer
@@ -35,8 +35,9 @@ is_built_layer _ = false
 abbrev pub is_built_term : PatternTree → Bool
 is_built_term t = is_built_layer (out-PatternTree t)
 
+-- one term or more, each in a form that is built
 abbrev pub is_built_pattern : PatternTree → Bool
-is_built_pattern t = list_all is_built_term (terms t)
+is_built_pattern t = nat_lt 0 (length (terms t)) && list_all is_built_term (terms t)
 
 -- ---- names
 

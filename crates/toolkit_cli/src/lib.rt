@@ -5,7 +5,8 @@ ghost use Rattle.toolkit_cli.specs.Conditions.{statement_lack};
 ghost use Rattle.toolkit_cli.specs.Meaning.{statement_of};
 
 mod action;
+mod description;
 mod lack;
 mod names;
-mod numbers;
+mod statement;
 mod terms;

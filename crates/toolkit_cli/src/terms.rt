@@ -6,7 +6,7 @@ ghost use Rattle.toolkit_cli.specs.Built.{IsScope};
 ghost use Rattle.sled_model.specs.Tokens.{AreTokens};
 
 use crate::names::NameTable;
-use crate::numbers::number_value;
+use sled_lexer::{number_in_range, number_value};
 use sled_model::{ClassId, FieldId, Pattern, Relation, Spec};
 use sled_parser::tree::{PatternTree, RelationTree, Spelling, ValueTree};
 use std::slice;
@@ -87,11 +87,21 @@ pub fn fits(spec: &Spec, names: &NameTable<'_>, term: &PatternTree) -> bool
             field,
             value: ValueTree::One(number),
             ..
-        } => match field_number(spec, names, field.as_slice()) {
-            Some(k) => number_value(number.as_slice()) < value_count(spec, k),
-            None => true,
-        },
+        } => limit_fits(spec, names, field.as_slice(), number.as_slice()),
         _ => true,
+    }
+}
+
+fn limit_fits(spec: &Spec, names: &NameTable<'_>, field: &[u8], number: &[u8]) -> bool
+    requires { IsScope spec.now names.now }
+    ensures { result ≡ of.limit_fits spec.now field.now number.now }
+{
+    let Some(k) = field_number(spec, names, field) else {
+        return true;
+    };
+    match number_in_range(number) {
+        Some(value) => u64::from(value) < value_count(spec, k),
+        None => false,
     }
 }
 
@@ -130,7 +140,7 @@ fn limit(
     Some(Pattern::Limit {
         field: FieldId(k as u32),
         relation: relation_of(relation),
-        value: number_value(number) as u32,
+        value: number_value(number),
     })
 }
 
