@@ -1,0 +1,81 @@
+-- Names seen through what holds them.
+use Rattle.std.proofs.Common.{◌≡◌, ℕ, suc, ◌+◌, Bool, true, false, cond, List, [], ◌∷◌, ◌++◌, length, Some, None, refl, sym, ap, ◌∙◌}
+use Rattle.std.proofs.lemmas.Slice.Eq.{bytes_eq-Decides}
+use Rattle.sled_elab.specs.Names.{is_among, are_distinct}
+use Rattle.std.specs.Prelude.{map, not, nat_lt, ◌||◌, ◌&&◌, position, Option, bytes_eq}
+use Rattle.std.specs.List.{list_any, prefix_len}
+
+pub list_any-map : {A B : Type 0} (p : B → Bool) (f : A → B) (xs : List A) → list_any p (map f xs) ≡ list_any (λ x. p (f x)) xs
+list_any-map p f [] = refl
+list_any-map p f (x ∷ xs) = ap (λ t. p (f x) || t) (list_any-map p f xs)
+
+prefix_len-map : {A B : Type 0} (p : B → Bool) (f : A → B) (xs : List A) → prefix_len p (map f xs) ≡ prefix_len (λ x. p (f x)) xs
+prefix_len-map p f [] = refl
+prefix_len-map p f (x ∷ xs) = ap (λ n. cond (p (f x)) (1 + n) 0) (prefix_len-map p f xs)
+
+pub length-map : {A B : Type 0} (f : A → B) (xs : List A) → length (map f xs) ≡ length xs
+length-map f [] = refl
+length-map f (x ∷ xs) = ap suc (length-map f xs)
+
+pub position-map : {A B : Type 0} (p : B → Bool) (f : A → B) (xs : List A) → position p (map f xs) ≡ position (λ x. p (f x)) xs
+position-map p f xs =
+    ap (λ n. cond (nat_lt n (length (map f xs))) (Some n) None) (prefix_len-map (λ y. not (p y)) f xs)
+    ∙ ap (λ n. cond (nat_lt (prefix_len (λ x. not (p (f x))) xs) n) (Some (prefix_len (λ x. not (p (f x))) xs)) None) (length-map f xs)
+
+-- ---- names that differ
+
+eq_sym : (xs ys : List ℕ) → bytes_eq xs ys ≡ bytes_eq ys xs
+eq_sym xs ys = by_test (bytes_eq xs ys) (bytes_eq ys xs) refl refl where
+  by_test : (s t : Bool) → bytes_eq xs ys ≡ s → bytes_eq ys xs ≡ t → s ≡ t
+  by_test true true a b = refl
+  by_test false false a b = refl
+  by_test true false a b = let e = (bytes_eq-Decides xs ys).0 a in let back = (bytes_eq-Decides ys xs).1 (sym e) in cc
+  by_test false true a b = let e = (bytes_eq-Decides ys xs).0 b in let back = (bytes_eq-Decides xs ys).1 (sym e) in cc
+
+none_of : (s t : Bool) → (s || t) ≡ false → (s ≡ false) × (t ≡ false)
+none_of true t h = cc
+none_of false t h = (refl, h)
+
+among_push : (ns : List (List ℕ)) (y n : List ℕ) → is_among ns n ≡ false → bytes_eq n y ≡ false → is_among (ns ++ y ∷ []) n ≡ false
+among_push [] y n h e = rw e refl
+among_push (m ∷ ns) y n h e = let parts = none_of (bytes_eq n m) (is_among ns n) h in rw (parts.0, among_push ns y n parts.1 e) refl
+
+both_of : (s t : Bool) → (s && t) ≡ true → (s ≡ true) × (t ≡ true)
+both_of true t h = (refl, h)
+both_of false t h = cc
+
+not_true : (t : Bool) → not t ≡ true → t ≡ false
+not_true true h = cc
+not_true false h = refl
+
+-- one name more that is not there yet
+pub distinct_push : (ns : List (List ℕ)) (y : List ℕ) → are_distinct ns ≡ true → is_among ns y ≡ false → are_distinct (ns ++ y ∷ []) ≡ true
+distinct_push [] y h new = refl
+distinct_push (n ∷ ns) y h new =
+    let here = both_of (not (is_among ns n)) (are_distinct ns) h in
+    let apart = none_of (bytes_eq y n) (is_among ns y) new in
+    rw (among_push ns y n (not_true (is_among ns n) here.0) (eq_sym n y ∙ apart.0), distinct_push ns y here.1 apart.1) refl
+
+among_middle : (ns ms : List (List ℕ)) (y n : List ℕ) → bytes_eq n y ≡ true → is_among (ns ++ y ∷ ms) n ≡ true
+among_middle [] ms y n e = rw e refl
+among_middle (m ∷ ns) ms y n e = rw (among_middle ns ms y n e) (or_true (bytes_eq n m)) where
+  or_true : (t : Bool) → (t || true) ≡ true
+  or_true true = refl
+  or_true false = refl
+
+and_false : (t : Bool) → (t && false) ≡ false
+and_false true = refl
+and_false false = refl
+
+-- a name that is there already
+pub distinct_false : (ns ms : List (List ℕ)) (y : List ℕ) → is_among ns y ≡ true → are_distinct (ns ++ y ∷ ms) ≡ false
+distinct_false [] ms y h = cc
+distinct_false (n ∷ ns) ms y h = by_test (bytes_eq y n) refl h (distinct_false ns ms y) where
+  by_test : (t : Bool) → bytes_eq y n ≡ t → (t || is_among ns y) ≡ true → (is_among ns y ≡ true → are_distinct (ns ++ y ∷ ms) ≡ false)
+      → (not (is_among (ns ++ y ∷ ms) n) && are_distinct (ns ++ y ∷ ms)) ≡ false
+  by_test true e h later = rw (among_middle ns ms y n (eq_sym n y ∙ e)) refl
+  by_test false e h later = rw (later h) (and_false (not (is_among (ns ++ y ∷ ms) n)))
+
+pub map-append : {A B : Type 0} (f : A → B) (xs ys : List A) → map f (xs ++ ys) ≡ map f xs ++ map f ys
+map-append f [] ys = refl
+map-append f (x ∷ xs) ys = ap (λ zs. f x ∷ zs) (map-append f xs ys)
