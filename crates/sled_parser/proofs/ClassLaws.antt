@@ -282,7 +282,7 @@ is_mark_class class.Number = false
 is_mark_class class.Text = false
 is_mark_class _ = true
 
-abbrev is_word_class : Class → Bool
+abbrev pub is_word_class : Class → Bool
 is_word_class class.All = true
 is_word_class class.Case = true
 is_word_class class.Constructors = true
@@ -331,7 +331,7 @@ mark_class_is t =
     chosen P (bytes_eq t (codes "*")) class.Star class.Other (λ _. refl) (λ _.
     refl)))))))))))))))))))))))))
 
-word_class_is : (t : List ℕ) → is_word_class (word_class t) ≡ true
+pub word_class_is : (t : List ℕ) → is_word_class (word_class t) ≡ true
 unfolding word_class
 word_class_is t =
     let P : Class → Type 0 = λ c. is_word_class c ≡ true in
