@@ -1,7 +1,7 @@
 //! How deep brackets stand inside one another, counted over the lexemes of a text.
 
 ghost use Rattle.std.specs.Prelude.{◌≡◌};
-ghost use Rattle.sled_parser.specs.Pieces.{AllWithin};
+ghost use Rattle.sled_lexer.specs.Lexemes.{AllWithin};
 ghost use Rattle.sled_parser.specs.Nesting as spec;
 
 use crate::class::{Class, class_of};

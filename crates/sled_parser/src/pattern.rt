@@ -2,7 +2,8 @@
 
 ghost use Rattle.std.specs.Prelude.{◌≡◌, ◌<◌, ◌≤◌, ◌∷◌, [], IfOk};
 ghost use Rattle.sled_parser.specs.Pieces.{Reads};
-ghost use Rattle.sled_parser.specs.Pieces.{pieces, AllWithin};
+ghost use Rattle.sled_lexer.specs.Lexemes.{AllWithin};
+ghost use Rattle.sled_parser.specs.Pieces.{pieces};
 ghost use Rattle.sled_parser.specs.Grammar as spec;
 ghost use Rattle.sled_parser.specs.declared.tree.PatternTree.{PatternTree};
 ghost use Rattle.sled_parser.specs.Trees.{IsSentenceOf, Answers, nesting};
@@ -57,7 +58,7 @@ fn joined(level: Level, mut items: PatternTreeList) -> PatternTree
 }
 
 #[tactic(auto, unfolding(crate::specs::Grammar::number))]
-fn number(alloc: Global, cursor: &mut Cursor<'_>) -> Result<Spelling, Fault>
+pub fn number(alloc: Global, cursor: &mut Cursor<'_>) -> Result<Spelling, Fault>
     ensures { Reads (spec.number cursor.old) result cursor.new }
 {
     if cursor.sees(Class::Number) {

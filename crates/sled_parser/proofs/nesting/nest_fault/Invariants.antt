@@ -1,5 +1,5 @@
 use Rattle.std.proofs.Common.{◌≡◌, length}
-use Rattle.sled_parser.specs.Pieces.{AllWithin}
+use Rattle.sled_lexer.specs.Lexemes.{AllWithin}
 use Rattle.sled_parser.specs.Nesting.{nest_fault, nest_fault_from}
 use Rattle.sled_parser.proofs.nesting.nest_fault.Given as goal
 
