@@ -362,6 +362,10 @@ name_ahead (q ∷ i) h = by_kind q.kind q.text h
     by_kind kind.Text t e = absurd cc
     by_kind kind.Mark t e = absurd (let bad : is_mark_class class.Name ≡ true = rw e at (mark_class_is t) in cc)
 
+-- no mark has the class of a Text
+pub no_mark_text : (t : List ℕ) → mark_class t ≡ class.Text → ⊥
+no_mark_text t e = let bad : is_mark_class class.Text ≡ true = rw e at (mark_class_is t) in cc
+
 pub number_ahead : (i : Input) → ahead i ≡ class.Number → i ≡ tree.number (text_of i) ∷ next i
 unfolding ahead next text_of
 number_ahead [] h = absurd cc
