@@ -83,7 +83,7 @@ module _ {A : Type 0} (item : Parser A) (ok : A → Type 0) (s : A → List Piec
 
 -- ---- values
 
-number_for : (n : List ℕ) (i : Input) → grammar.number (number n ∷ i) ≡ Ok (n, i)
+pub number_for : (n : List ℕ) (i : Input) → grammar.number (number n ∷ i) ≡ Ok (n, i)
 unfolding grammar.number sees ahead text_of next
 number_for n i = rw (same_self class.Number) refl
 
