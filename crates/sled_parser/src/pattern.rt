@@ -56,8 +56,9 @@ fn joined(level: Level, mut items: PatternTreeList) -> PatternTree
     node(level, items)
 }
 
+/// The text of a number, if one comes next.
 #[tactic(auto, unfolding(crate::specs::Grammar::number))]
-fn number(alloc: Global, cursor: &mut Cursor<'_>) -> Result<Spelling, Fault>
+pub fn number(alloc: Global, cursor: &mut Cursor<'_>) -> Result<Spelling, Fault>
     ensures { Reads (spec.number cursor.old) result cursor.new }
 {
     if cursor.sees(Class::Number) {
