@@ -1,5 +1,6 @@
 -- The rules of declarations, each as a parser.
-use Rattle.std.specs.Prelude.{ℕ, zero, suc, Bool, true, false, ◌||◌, if◌then◌else◌, List, [], ◌∷◌, ◌++◌, length, Option, Some, None, Ok, Err}
+use Rattle.std.specs.Prelude.{◌≡◌, ℕ, zero, suc, Bool, true, false, ◌||◌, if◌then◌else◌, List, [], ◌∷◌, ◌++◌, length, Option, Some, None, Result, Ok, Err}
+use Rattle.std.specs.declared.vec.Vec.{Vec}
 use Rattle.sled_parser.specs.declared.class.Class.{Class}
 use Rattle.sled_parser.specs.declared.class.Class.TheVariants as class
 use Rattle.sled_parser.specs.declared.tree.FieldTree.{FieldTree}
@@ -11,7 +12,9 @@ use Rattle.sled_parser.specs.declared.tree.Section.{Section}
 use Rattle.sled_parser.specs.declared.tree.Section.TheVariants as section
 use Rattle.sled_parser.specs.declared.tree.Decl.{Decl}
 use Rattle.sled_parser.specs.declared.tree.Decl.TheVariants as decl
-use Rattle.sled_parser.specs.Pieces.{Input, Parser, ◌>>=◌, ◌>>◌, pure, refuse, peek, step, eat, pass, take_text, looks, sees}
+use Rattle.sled_parser.specs.declared.fault.Fault.{Fault}
+use Rattle.sled_parser.specs.declared.fault.Fault.TheVariants as fault
+use Rattle.sled_parser.specs.Pieces.{Input, Outcome, Parser, ◌>>=◌, ◌>>◌, pure, refuse, peek, step, eat, pass, take_text, looks, sees}
 use Rattle.sled_parser.specs.Grammar.{number, chain, pattern_at}
 use Rattle.sled_parser.specs.EquationGrammar.{many_from, name, braced_equations}
 use Rattle.sled_parser.specs.Declarations.{section_after}
@@ -59,10 +62,13 @@ item_of = peek >>= item_by
 abbrev pub sees_item : Input → Bool
 sees_item i = sees class.Name i || sees class.Underscore i
 
+abbrev pub items_from : Parser (List ItemTree)
+items_from = λ i. many_from sees_item item_of (length i) [] i
+
 -- after an opening bracket, with the closing one
 unfoldable pub listed_items : Parser (Option (List ItemTree))
 listed_items = do
-  all ← (λ i. many_from sees_item item_of (length i) [] i)
+  all ← items_from
   _ ← pass class.CloseBracket
   pure (Some all)
 
@@ -152,3 +158,9 @@ declarations_from n (suc turns) s found = do
 -- the declarations of a whole text
 abbrev pub declarations_at : ℕ → Parser (List Decl)
 declarations_at n = λ i. declarations_from n (length i) None [] i
+
+-- what a function that reads a list ensures: the parser's outcome, unless memory fails
+abbrev pub ReadsAll : {A Z : Type 0} → Outcome (List A) → Result (Vec A Z) Fault → Input → Type 0
+ReadsAll outcome (Ok v) new = outcome ≡ Ok (v.items, new)
+ReadsAll outcome (Err fault.Syntax) new = outcome ≡ Err new
+ReadsAll outcome (Err fault.NoMemory) new = Unit {0}

@@ -129,11 +129,7 @@ fn sees_sign(cursor: &Cursor<'_>) -> bool
 
 /// The terms of a sum from its first on.
 #[tactic(auto, unfolding(crate::specs::EquationGrammar::many_from))]
-fn terms(
-    alloc: Global,
-    cursor: &mut Cursor<'_>,
-    first: TermTree,
-) -> Result<TermTreeList, Fault>
+fn terms(alloc: Global, cursor: &mut Cursor<'_>, first: TermTree) -> Result<TermTreeList, Fault>
     ensures { Reads (spec.terms_after first cursor.old) result cursor.new }
 {
     let mut found = TermTreeList::new(alloc);
