@@ -22,7 +22,7 @@ use Rattle.sled_parser.proofs.Complete.{Other, Each, pass_for, not_same, other_f
 
 -- ---- steps
 
-or_none : (x y : Bool) → x ≡ false → y ≡ false → (x || y) ≡ false
+pub or_none : (x y : Bool) → x ≡ false → y ≡ false → (x || y) ≡ false
 or_none x y h k = rw (h, k) refl
 
 pub name_for : (w : List ℕ) (i : Input) → is_name w ≡ true → name (word w ∷ i) ≡ Ok (w, i)
