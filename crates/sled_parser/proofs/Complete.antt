@@ -44,7 +44,7 @@ pub pass_for : (k : Class) → is_fixed k ≡ true → (i : Input) → pass k (p
 unfolding pass next
 pass_for k f i = rw (sees_for k i f) refl
 
-not_same : (a b : Class) (t : Bool) → same_class a b ≡ t → (a ≡ b → ⊥) → t ≡ false
+pub not_same : (a b : Class) (t : Bool) → same_class a b ≡ t → (a ≡ b → ⊥) → t ≡ false
 not_same a b true e no_ = absurd (no_ (same_true a b e))
 not_same a b false e no_ = refl
 
@@ -110,7 +110,7 @@ pub other_for : (j k : Class) (i : Input) → is_fixed k ≡ true → (k ≡ j �
 unfolding sees ahead
 other_for j k i f no_ = rw (class_for k f) (not_same k j _ refl no_)
 
-number_other : (k : Class) (n : List ℕ) (r : Input) → (class.Number ≡ k → ⊥) → Other k (number n ∷ r)
+pub number_other : (k : Class) (n : List ℕ) (r : Input) → (class.Number ≡ k → ⊥) → Other k (number n ∷ r)
 unfolding sees ahead
 number_other k n r no_ = not_same class.Number k _ refl no_
 

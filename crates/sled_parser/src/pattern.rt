@@ -52,6 +52,7 @@ fn joined(level: Level, mut items: PatternTreeList) -> PatternTree
     node(level, items)
 }
 
+/// The text of a number, if one comes next.
 #[tactic(auto, unfolding(crate::specs::Grammar::number))]
 pub fn number(alloc: Global, cursor: &mut Cursor<'_>) -> Result<Spelling, Fault>
     ensures { Reads (spec.number cursor.old) result cursor.new }
