@@ -1,7 +1,22 @@
--- What the lexemes of a text are, for those who stand on `lex`: they lie in the text.
+-- What the lexemes of a text are, for those who stand on `lex`: at most one of a list in range and a fault, and within the text.
 use Rattle.std.proofs.Common.{◌≡◌, ℕ, ◌+◌, ◌-◌, ◌≤◌, List, [], ◌∷◌, length, drop, arith, length-drop}
 use Rattle.sled_lexer.specs.declared.Lexeme.{Lexeme}
-use Rattle.sled_lexer.specs.Lexemes.{IsNext, IsGap, Front, Lexemes, AllWithin}
+use Rattle.sled_lexer.specs.declared.LexFault.{LexFault}
+use Rattle.sled_lexer.specs.Lexemes.{IsNext, IsGap, Front, Lexemes, InRange, IsLexFault, AllWithin}
+use Rattle.sled_lexer.proofs.Unique.{same_lists}
+use Rattle.sled_lexer.proofs.Faults.{same_fault, no_list_and_fault}
+
+-- a text has at most one list of lexemes
+pub one_list : (text : List ℕ) (ls ms : List Lexeme) → Lexemes text ls → Lexemes text ms → ls ≡ ms
+one_list text ls ms a b = same_lists text 0 ls ms a.0 b.0 a.1 a.2 b.1 b.2
+
+-- and at most one fault
+pub one_fault : (text : List ℕ) (f g : LexFault) → IsLexFault text f → IsLexFault text g → f ≡ g
+one_fault text f g a b = same_fault text 0 a.0 b.0 a.1 b.1 f g a.2 a.3 a.4 b.2 b.3 b.4
+
+-- and not both, if its Numbers are in range
+pub list_or_fault : (text : List ℕ) (ls : List Lexeme) (f : LexFault) → Lexemes text ls → InRange text ls → IsLexFault text f → ⊥
+list_or_fault text ls f a in_range b = no_list_and_fault text 0 ls b.0 a.0 b.1 f a.1 in_range a.2 b.2 b.4
 
 -- the lexeme that comes next lies in the text
 next_within : (text : List ℕ) (at : ℕ) (l : Lexeme) → IsNext text at l → (l.span.start ≤ l.span.end) × (l.span.end ≤ length text)

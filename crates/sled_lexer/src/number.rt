@@ -1,0 +1,84 @@
+// Numbers: how long one is, and what it stands for.
+
+ghost use Rattle.std.specs.Prelude.{◌≡◌, ◌<◌, ◌≤◌, length, true};
+ghost use Rattle.std.specs.Str.Parse.{digits_value};
+ghost use Rattle.std.specs.Char.{digit_value};
+ghost use Rattle.sled_lexer.specs.Spelled as meaning;
+ghost use Rattle.sled_lexer.specs.Cut as spec;
+
+use crate::Kind;
+use crate::piece::{Set, Stop, run};
+use sled_base::MAX_NUMBER;
+
+#[tactic(auto, unfolding(crate::specs::Cut::begins_hex))]
+fn begins_hex(text: &[u8]) -> bool
+    ensures value { result ≡ spec.begins_hex text.now }
+    ensures within { result ≡ true → 2 < length text.now }
+{
+    text.len() > 2 && text.starts_with(b"0x") && text[2].is_ascii_hexdigit()
+}
+
+#[tactic(auto, unfolding(crate::specs::Cut::number_len))]
+fn number_len(text: &[u8]) -> usize
+    ensures value { result ≡ spec.number_len text.now }
+    ensures within { result ≤ length text.now }
+{
+    if begins_hex(text) {
+        2 + run(Set::Hex, &text[2..])
+    } else {
+        run(Set::Digit, text)
+    }
+}
+
+fn digit(b: u8) -> u64
+    ensures value { result ≡ digit_value b }
+    ensures small { result ≤ 36 }
+{
+    char::from(b).to_digit(36).map_or(36, u64::from)
+}
+
+/// The value of the digits, if it is not above the greatest Number.
+fn value(base: u64, digits: &[u8]) -> Option<u32>
+    requires low { 1 ≤ base }
+    requires high { base ≤ 16 }
+    ensures { result ≡ spec.in_range (digits_value base digits.now) }
+{
+    let mut value = 0;
+    for d in digits {
+        value = value * base + digit(*d);
+        if value > u64::from(MAX_NUMBER) {
+            return None;
+        }
+    }
+    Some(value as u32)
+}
+
+#[tactic(auto, unfolding(crate::specs::Spelled::number_value))]
+fn value_of(number: &[u8]) -> Option<u32>
+    ensures { result ≡ spec.in_range (meaning.number_value number.now) }
+{
+    match number.strip_prefix(b"0x") {
+        Some(digits) => value(16, digits),
+        None => value(10, number),
+    }
+}
+
+/// The Number at the front of a text that begins with a digit.
+#[tactic(auto, unfolding(crate::specs::Cut::number_cut))]
+pub fn cut(text: &[u8]) -> Result<(Kind, usize), Stop>
+    ensures { result ≡ spec.number_cut text.now }
+{
+    let len = number_len(text);
+    match value_of(&text[..len]) {
+        Some(_) => Ok((Kind::Number, len)),
+        None => Err(Stop::NumberTooBig),
+    }
+}
+
+/// The number that a Number writes, in decimal or behind `0x` in hexadecimal digits. Its caller keeps it to 4,294,967,295.
+pub fn number_value(spelling: &[u8]) -> u32
+    requires { meaning.number_value spelling.now ≤ MAX_NUMBER }
+    ensures { result ≡ meaning.number_value spelling.now }
+{
+    value_of(spelling).unwrap()
+}
