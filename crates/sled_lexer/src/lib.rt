@@ -4,7 +4,7 @@
 ghost use Rattle.std.specs.Prelude.{◌≡◌, ◌≢◌, ◌<◌, ◌≤◌, ◌^◌, length, drop, ◌+◌, false, List, ℕ, IfOk, IfErr};
 ghost use Rattle.sled_lexer.specs.declared.Lexeme.{Lexeme};
 ghost use Rattle.sled_lexer.specs.Cut.{gap_len};
-ghost use Rattle.sled_lexer.specs.Lexemes.{Lexemes, InRange, IsLexFault, Follows, IsStopAfter, Holds};
+ghost use Rattle.sled_lexer.specs.Lexemes.{Lexemes, InRange, IsLexFault, AllWithin, Follows, IsStopAfter, Holds};
 
 mod piece;
 
@@ -94,6 +94,7 @@ pub fn lex(alloc: Global, text: &[u8]) -> Result<Vec<Lexeme>, LexFault>
     requires { length text.now ≤ 1048576 }
     ensures ok { IfOk result (λ v. Lexemes text.now v.items) }
     ensures range { IfOk result (λ v. InRange text.now v.items) }
+    ensures within { IfOk result (λ v. AllWithin text.now v.items) }
     ensures fault { IfErr result (λ f. f ≢ LexFault.NoMemory → IsLexFault text.now f) }
 {
     let mut found = Vec::new(alloc);

@@ -711,3 +711,7 @@ pattern_complete (suc n) m h t r f d st =
     let boths = level_complete level.Both n (post (pattern_at n) (arguments_at n)) posts in
     let chains = level_complete level.Chain n (level_of level.Both (post (pattern_at n) (arguments_at n))) boths in
     level_complete level.Either n (level_of level.Chain (level_of level.Both (post (pattern_at n) (arguments_at n)))) chains t r f (omega arith) st
+
+pub stops_at_end : Stops 5 []
+unfolding ahead
+stops_at_end = omega arith

@@ -21,10 +21,6 @@ abbrev pub pieces : List ℕ → List Lexeme → List Piece
 pieces text [] = []
 pieces text (l ∷ ls) = piece text l ∷ pieces text ls
 
-abbrev pub AllWithin : List ℕ → List Lexeme → Type 0
-AllWithin text [] = Unit {0}
-AllWithin text (l ∷ ls) = ((l.span.start ≤ l.span.end) × (l.span.end ≤ length text)) × AllWithin text ls
-
 -- ---- what a lexeme means to the grammar
 
 unfoldable pub mark_class : List ℕ → Class
@@ -155,6 +151,10 @@ take_text = λ i. Ok (text_of i, next i)
 -- takes a lexeme of this class, or refuses
 unfoldable pub pass : Class → Parser (Unit {0})
 pass k = λ i. if sees k i then Ok (tt, next i) else Err i
+
+-- No lexeme is left, or it is refused.
+unfoldable pub finish : Parser (Unit {0})
+finish = λ i. if sees class.End i then Ok (tt, i) else Err i
 
 -- ---- what a function that parses ensures: the parser's outcome, unless memory fails
 

@@ -14,8 +14,6 @@ use Rattle.sled_parser.specs.declared.tree.RelationTree.{RelationTree}
 use Rattle.sled_parser.specs.declared.tree.RelationTree.TheVariants as relation
 use Rattle.sled_parser.specs.declared.tree.ValueTree.{ValueTree}
 use Rattle.sled_parser.specs.declared.tree.ValueTree.TheVariants as value
-use Rattle.sled_parser.specs.declared.fault.Fault.{Fault}
-use Rattle.sled_parser.specs.declared.fault.Fault.TheVariants as fault
 use Rattle.sled_parser.specs.Classes.{same_class}
 use Rattle.sled_parser.specs.Pieces.{Piece, Input, word_class}
 
@@ -191,15 +189,3 @@ nesting_step (p.Apply w args) = suc (deepest (map argument_nesting args))
 
 unfoldable pub nesting : PatternTree → ℕ
 nesting = fold-PatternTree ℕ nesting_step
-
--- ---- whole lists of lexemes
-
--- the list is what the layered tree unparses to
-abbrev pub IsSentenceOf : Input → PatternTree → Type 0
-IsSentenceOf i t = IsLayered t × (i ≡ spelling t)
-
--- the answer is this tree, unless memory failed
-abbrev pub Answers : PatternTree → Result PatternTree Fault → Type 0
-Answers t (Ok u) = u ≡ t
-Answers t (Err fault.Syntax) = ⊥
-Answers t (Err fault.NoMemory) = Unit {0}
