@@ -25,6 +25,7 @@ use Rattle.sled_parser.specs.Declarations.{field_spelling, field_layered, item_s
 use Rattle.sled_parser.proofs.ClassLaws.{is_fixed, same_self, sees_for, ahead_for, ahead_sees, ahead_name}
 use Rattle.sled_parser.proofs.Sound.{and_both, both_true}
 use Rattle.sled_parser.proofs.Complete.{Other, Each, pass_for, not_same, other_for, number_for, number_other, chain_complete, join_long, tight, Stops, rank_five, pattern_complete}
+use Rattle.sled_parser.proofs.DeclarationSound.{decl_long}
 use Rattle.sled_parser.proofs.EquationComplete.{or_none, name_for, name_other, many_complete, many_long, each_true, braced_equations_complete}
 
 other_by : (k c : Class) (i : Input) → ahead i ≡ c → (c ≡ k → ⊥) → Other k i
@@ -396,12 +397,6 @@ all_complete n m h (suc turns) s found (d ∷ ds) layered deep long =
     (declaration_complete n m h s d r both.0 (omega arith) (follows s d ds both.1))
     ∙ all_complete n m h turns (section_after s d) (found ++ d ∷ []) ds both.1 (omega arith) (omega arith)
     ∙ ap (λ l. let y : Outcome (List Decl) = Ok (l, []) in y) (append_assoc found (d ∷ []) ds)
-
-decl_long : (d : Decl) → 0 < length (decl_spelling d)
-decl_long (decl.Class w width little fields) = omega arith
-decl_long (decl.Heading h) = omega arith
-decl_long (decl.Definition w items x) = omega arith
-decl_long (decl.ConstructorDecl w operands result equations body) = omega arith
 
 description_long : (ds : List Decl) → length ds ≤ length (description_spelling ds)
 description_long [] = omega arith

@@ -1,5 +1,5 @@
 -- What a rule of declarations reads is layered, and is what its tree unparses to.
-use Rattle.std.proofs.Common.{◌≡◌, ℕ, zero, suc, ◌+◌, ◌<◌, ◌≤◌, Bool, true, false, List, [], ◌∷◌, ◌++◌, length, refl, ap, sym, ◌∙◌, subst, arith, append_assoc, append-nil, Ok, Err, Option, Some, None}
+use Rattle.std.proofs.Common.{◌≡◌, ℕ, zero, suc, ◌+◌, ◌<◌, ◌≤◌, Bool, true, false, List, [], ◌∷◌, ◌++◌, length, refl, ap, sym, ◌∙◌, subst, arith, append_assoc, append-nil, length-append, Ok, Err, Option, Some, None}
 use Rattle.std.specs.Prelude.{◌&&◌, ◌||◌, if◌then◌else◌, map, flat_map}
 use Rattle.std.specs.List.{list_all}
 use Rattle.sled_parser.specs.declared.class.Class.{Class}
@@ -21,8 +21,8 @@ use Rattle.sled_parser.specs.EquationGrammar.{many_from, name, braced_equations}
 use Rattle.sled_parser.specs.DeclarationGrammar.{field_of, fields_of, class_of, class_decl, item_by, item_of, sees_item, items_from, listed_items, items_of, definition_at, typed, operand_after, operand_of, operands_of, result_of, constructor_with, constructor_at, definition_in, declaration_by, declaration_at, declarations_from, declarations_at}
 use Rattle.sled_parser.specs.Trees.{piece_for, word, number, is_name, join, spelling, grade}
 use Rattle.sled_parser.specs.Equations.{equation_spelling, equation_layered}
-use Rattle.sled_parser.specs.Declarations.{field_spelling, field_layered, item_spelling, item_layered, operand_spelling, operand_layered, little_spelling, items_spelling, items_layered, result_spelling, result_layered, equations_spelling, decl_spelling, decl_layered, in_patterns, in_constructors, section_after, description_spelling, layered_in, description_layered}
-use Rattle.sled_parser.proofs.ClassLaws.{sees_fixed, ahead_sees, name_ahead}
+use Rattle.sled_parser.specs.Declarations.{field_spelling, field_layered, item_spelling, item_layered, operand_spelling, operand_layered, little_spelling, items_spelling, items_layered, result_spelling, result_layered, equations_spelling, decl_spelling, decl_layered, in_patterns, in_constructors, section_after, description_spelling, layered_in, description_layered, IsDescription}
+use Rattle.sled_parser.proofs.ClassLaws.{sees_fixed, sees_ahead, ahead_sees, ahead_end, name_ahead}
 use Rattle.sled_parser.proofs.Sound.{bind_ok, and_both, both_true, Sound, chain_sound, fits, pattern_sound}
 use Rattle.sled_parser.proofs.EquationSound.{given, SoundWhere, many_sound, pure_ok, after_read, after_pass, after_number, after_name, after_part, braced_equations_sound}
 
@@ -300,6 +300,12 @@ declaration_sound : (n : ℕ) (s : Option Section) → Sound (declaration_at n s
 unfolding declaration_at
 declaration_sound n s i y e = declaration_case n s (ahead i) i refl y e
 
+pub decl_long : (d : Decl) → 0 < length (decl_spelling d)
+decl_long (decl.Class w width little fields) = omega arith
+decl_long (decl.Heading h) = omega arith
+decl_long (decl.Definition w items x) = omega arith
+decl_long (decl.ConstructorDecl w operands result equations body) = omega arith
+
 -- the declarations are what was found, and what was read since
 abbrev DescriptionFrom : Option Section → List Decl → Input → List Decl × Input → Type 0
 DescriptionFrom s found i y = (ds : List Decl) × (y.0 ≡ found ++ ds) × (layered_in s ds ≡ true) × (i ≡ description_spelling ds ++ y.1)
@@ -333,3 +339,31 @@ pub declarations_sound : (n : ℕ) → Sound (declarations_at n) description_lay
 declarations_sound n i y e =
     let r = all_read n (length i) None [] i y e in
     given description_layered description_spelling r.0 i y (sym r.1) r.2 r.3
+
+-- ---- nothing is left
+
+no_items : (i : Input) → length i ≤ 0 → i ≡ []
+no_items [] h = refl
+no_items (q ∷ i) h = absurd (omega arith)
+
+turn_left : (n turns : ℕ) (s : Option Section) (found : List Decl) (i : Input) (y : List Decl × Input) → length i ≤ suc turns
+    → ((s : Option Section) (found : List Decl) (i : Input) (y : List Decl × Input) → declarations_from n turns s found i ≡ Ok y → length i ≤ turns → y.1 ≡ [])
+    → (b : Bool) → sees class.End i ≡ b
+    → (let q : Parser (List Decl) = (if b then pure found else (λ j. and_then (declaration_at n s j) (λ d. declarations_from n turns (section_after s d) (found ++ d ∷ [])))) in q) i ≡ Ok y
+    → y.1 ≡ []
+turn_left n turns s found i y few again true seen e = sym (pure_ok found i y e).1 ∙ ahead_end i (sees_ahead class.End i seen)
+turn_left n turns s found i y few again false seen e =
+    after_part (declaration_at n s) (decl_layered s) decl_spelling (declaration_sound n s) _ i y e (λ d i1 layered e1 h1.
+    again (section_after s d) (found ++ d ∷ []) i1 y h1 (omega (arith, ap length e1, length-append (decl_spelling d) i1, decl_long d)))
+
+all_left : (n turns : ℕ) (s : Option Section) (found : List Decl) (i : Input) (y : List Decl × Input) → declarations_from n turns s found i ≡ Ok y → length i ≤ turns → y.1 ≡ []
+unfolding declarations_from
+all_left n zero s found i y e few = sym (pure_ok found i y e).1 ∙ no_items i few
+all_left n (suc turns) s found i y e few = turn_left n turns s found i y few (all_left n turns) (sees class.End i) refl e
+
+-- A whole text that is read is the description of these declarations.
+pub description_sound : (n : ℕ) (i : Input) (y : List Decl × Input) → declarations_at n i ≡ Ok y → IsDescription i y.0
+description_sound n i y e =
+    let r = declarations_sound n i y e in
+    let none : y.1 ≡ [] = all_left n (length i) None [] i y e (omega arith) in
+    (r.0, r.1 ∙ ap (λ z. description_spelling y.0 ++ z) none ∙ append-nil (description_spelling y.0))

@@ -2,16 +2,11 @@
 use Rattle.std.proofs.Common.{◌≡◌, ℕ, suc, ◌≤◌, List, [], refl, ap, sym, ◌∙◌, arith, Ok}
 use Rattle.std.specs.Prelude.{max}
 use Rattle.sled_parser.specs.declared.tree.Decl.{Decl}
-use Rattle.sled_parser.specs.Pieces.{Input, Outcome}
+use Rattle.sled_parser.specs.Pieces.{Input}
 use Rattle.sled_parser.specs.DeclarationGrammar.{declarations_at}
 use Rattle.sled_parser.specs.Declarations.{IsDescription, description_nesting}
+use Rattle.sled_parser.proofs.Only.{same_read}
 use Rattle.sled_parser.proofs.DeclarationComplete.{declarations_complete}
-
-abbrev Read : Type 0
-Read = List Decl × Input
-
-ok_same : (x y : Read) → (let a : Outcome (List Decl) = Ok x in let b : Outcome (List Decl) = Ok y in a ≡ b) → x ≡ y
-ok_same x y e = cc
 
 -- a description is read as a whole where the rule may go as deep as it does
 pub description_read : (n : ℕ) (i : Input) (t : List Decl) → IsDescription i t → suc (description_nesting t) ≤ n → declarations_at n i ≡ Ok (t, [])
@@ -22,4 +17,4 @@ one_description i t u is_t is_u =
     let n : ℕ = suc (max (description_nesting t) (description_nesting u)) in
     let a : declarations_at n i ≡ Ok (t, []) = description_read n i t is_t (omega arith) in
     let b : declarations_at n i ≡ Ok (u, []) = description_read n i u is_u (omega arith) in
-    ap (λ z. z.0) (ok_same (t, []) (u, []) (sym a ∙ b))
+    same_read t u [] [] (sym a ∙ b)
