@@ -1,6 +1,6 @@
 -- What a layered tree unparses to is read as that tree, whatever stands behind it that does not go on with it.
-use Rattle.std.proofs.Common.{◌≡◌, ℕ, zero, suc, ◌+◌, ◌<◌, ◌≤◌, Bool, true, false, List, [], ◌∷◌, ◌++◌, length, refl, ap, sym, ◌∙◌, subst, arith, append_assoc, append-nil, Ok, Err, Option, Some, None}
-use Rattle.std.specs.Prelude.{◌&&◌, if◌then◌else◌, map, nat_le, nat_lt}
+use Rattle.std.proofs.Common.{◌≡◌, ℕ, zero, suc, ◌<◌, ◌≤◌, Bool, true, false, List, [], ◌∷◌, ◌++◌, length, refl, ap, sym, ◌∙◌, subst, arith, append_assoc, append-nil, Ok, Some, None}
+use Rattle.std.specs.Prelude.{◌&&◌, map, nat_le, nat_lt}
 use Rattle.std.specs.List.{list_all}
 use Rattle.std.proofs.lemmas.Bool.Decides.{nat_tests}
 use Rattle.sled_parser.specs.declared.class.Class.{Class}
@@ -16,14 +16,13 @@ use Rattle.sled_parser.specs.declared.tree.RelationTree.TheVariants as relation
 use Rattle.sled_parser.specs.declared.tree.ValueTree.{ValueTree}
 use Rattle.sled_parser.specs.declared.tree.ValueTree.TheVariants as value
 use Rattle.sled_parser.specs.Classes.{same_class}
-use Rattle.sled_parser.specs.Pieces.{Piece, Input, Outcome, Parser, and_then, pure, refuse, pass, sees, ahead, second, next, text_of, sees_label}
+use Rattle.sled_parser.specs.Pieces.{Piece, Input, Outcome, Parser, pass, sees, ahead, second, next, text_of, sees_label}
 use Rattle.sled_parser.specs.Grammar.{chain_from, numbers_from, range_from, listed_from, braced, value_by, value_of, relation_of, arguments, inner, argument_by, argument_of, arguments_at, limited, unapplied, named, grouped, atom_by, atom, loose, labelled, post, separator, node, joined, level_of, member, at_level, pattern_at}
 use Rattle.sled_parser.specs.Grammar as grammar
-use Rattle.sled_parser.specs.Trees.{piece_for, word, number, is_name, followed, join, relation_piece, value_spelling, value_layered, argument_spelling, argument_layered, spelling, grade, members, mark}
-use Rattle.sled_parser.proofs.ClassLaws.{chosen, is_fixed, same_self, sees_fixed, sees_for, ahead_for, class_for, sees_ahead, ahead_sees, ahead_name, same_true}
-use Rattle.sled_parser.proofs.TreeLaws as tree
+use Rattle.sled_parser.specs.Trees.{piece_for, word, number, is_name, followed, join, relation_piece, value_spelling, value_layered, argument_spelling, argument_layered, spelling, grade, members}
+use Rattle.sled_parser.proofs.ClassLaws.{is_fixed, same_self, sees_for, ahead_for, class_for, sees_ahead, ahead_name, same_true}
 use Rattle.sled_parser.proofs.TreeLaws.{spelling_roll, grade_roll, nesting_roll, argument_roll, layered_roll, argument_nesting_roll}
-use Rattle.sled_parser.proofs.Sound.{and_both, both_true, fits, height, below, wider, followed_join, length_map, all_map}
+use Rattle.sled_parser.proofs.Sound.{and_both, both_true, fits, height, below, length_map, all_map}
 use Rattle.sled_parser.specs.Trees.{deepest, nesting, argument_nesting}
 use Rattle.sled_parser.specs.declared.tree.PatternTree.{roll-PatternTree, out-PatternTree, roll-out-PatternTree}
 use Rattle.sled_parser.specs.declared.tree.PatternTree.TheOpen.{PatternTree-F}
@@ -31,8 +30,7 @@ use Rattle.sled_parser.specs.declared.tree.PatternTree.TheOpen as one
 use Rattle.sled_parser.specs.declared.tree.ArgumentTree.{roll-ArgumentTree, out-ArgumentTree, roll-out-ArgumentTree}
 use Rattle.sled_parser.specs.declared.tree.ArgumentTree.TheOpen.{ArgumentTree-F}
 use Rattle.sled_parser.specs.declared.tree.ArgumentTree.TheOpen as arg
-use Rattle.std.proofs.Common.{length-append, ◌⊎◌, inl, inr}
-use Rattle.std.specs.Prelude.{max}
+use Rattle.std.proofs.Common.{length-append}
 
 -- ---- steps
 

@@ -1,6 +1,6 @@
 -- What layered declarations unparse to is read as these declarations.
-use Rattle.std.proofs.Common.{◌≡◌, ℕ, zero, suc, ◌+◌, ◌<◌, ◌≤◌, Bool, true, false, List, [], ◌∷◌, ◌++◌, length, refl, ap, sym, ◌∙◌, subst, arith, append_assoc, append-nil, length-append, Ok, Err, Option, Some, None}
-use Rattle.std.specs.Prelude.{◌&&◌, ◌||◌, if◌then◌else◌, map, flat_map, max}
+use Rattle.std.proofs.Common.{◌≡◌, ℕ, zero, suc, ◌<◌, ◌≤◌, Bool, true, false, List, [], ◌∷◌, ◌++◌, length, refl, ap, sym, ◌∙◌, subst, arith, append_assoc, append-nil, length-append, Ok, Option, Some, None}
+use Rattle.std.specs.Prelude.{◌&&◌, map, flat_map}
 use Rattle.std.specs.List.{list_all}
 use Rattle.sled_parser.specs.declared.class.Class.{Class}
 use Rattle.sled_parser.specs.declared.class.Class.TheVariants as class
@@ -15,16 +15,15 @@ use Rattle.sled_parser.specs.declared.tree.Section.{Section}
 use Rattle.sled_parser.specs.declared.tree.Section.TheVariants as section
 use Rattle.sled_parser.specs.declared.tree.Decl.{Decl}
 use Rattle.sled_parser.specs.declared.tree.Decl.TheVariants as decl
-use Rattle.sled_parser.specs.Pieces.{Piece, Input, Outcome, Parser, and_then, pass, sees, ahead, next, text_of}
-use Rattle.sled_parser.specs.Grammar.{chain_from, pattern_at}
-use Rattle.sled_parser.specs.EquationGrammar.{many_from, name, braced_equations}
+use Rattle.sled_parser.specs.Pieces.{Piece, Input, Outcome, sees, ahead, next, text_of}
+use Rattle.sled_parser.specs.Grammar.{pattern_at}
 use Rattle.sled_parser.specs.DeclarationGrammar.{field_of, fields_of, class_of, class_decl, item_of, sees_item, items_from, listed_items, items_of, definition_at, typed, operand_after, operand_of, operands_of, result_of, constructor_with, constructor_at, definition_in, declaration_at, declarations_from, declarations_at}
-use Rattle.sled_parser.specs.Trees.{piece_for, word, number, is_name, followed, join, spelling, grade, nesting, deepest}
+use Rattle.sled_parser.specs.Trees.{piece_for, word, number, is_name, followed, join, spelling, grade, nesting}
 use Rattle.sled_parser.specs.Equations.{equation_spelling, equation_layered}
 use Rattle.sled_parser.specs.Declarations.{field_spelling, field_layered, item_spelling, item_layered, operand_spelling, operand_layered, little_spelling, items_spelling, items_layered, result_spelling, result_layered, equations_spelling, heading_piece, decl_spelling, decl_layered, in_patterns, in_constructors, section_after, description_spelling, layered_in, description_layered, decl_nesting, description_nesting}
-use Rattle.sled_parser.proofs.ClassLaws.{is_fixed, same_self, sees_for, ahead_for, ahead_sees, ahead_name}
+use Rattle.sled_parser.proofs.ClassLaws.{same_self, sees_for, ahead_for, ahead_sees, ahead_name}
 use Rattle.sled_parser.proofs.Sound.{and_both, both_true}
-use Rattle.sled_parser.proofs.Complete.{Other, Each, pass_for, not_same, other_for, number_for, number_other, chain_complete, join_long, tight, Stops, rank_five, pattern_complete}
+use Rattle.sled_parser.proofs.Complete.{Other, Each, pass_for, not_same, other_for, number_for, chain_complete, join_long, tight, Stops, rank_five, pattern_complete}
 use Rattle.sled_parser.proofs.DeclarationSound.{decl_long}
 use Rattle.sled_parser.proofs.EquationComplete.{or_none, name_for, name_other, many_complete, many_long, each_true, braced_equations_complete}
 

@@ -1,6 +1,6 @@
 -- What a rule of declarations reads is layered, and is what its tree unparses to.
-use Rattle.std.proofs.Common.{◌≡◌, ℕ, zero, suc, ◌+◌, ◌<◌, ◌≤◌, Bool, true, false, List, [], ◌∷◌, ◌++◌, length, refl, ap, sym, ◌∙◌, subst, arith, append_assoc, append-nil, length-append, Ok, Err, Option, Some, None}
-use Rattle.std.specs.Prelude.{◌&&◌, ◌||◌, if◌then◌else◌, map, flat_map}
+use Rattle.std.proofs.Common.{◌≡◌, ℕ, zero, suc, ◌<◌, ◌≤◌, Bool, true, false, List, [], ◌∷◌, ◌++◌, length, refl, ap, sym, ◌∙◌, subst, arith, append_assoc, append-nil, length-append, Ok, Option, Some, None}
+use Rattle.std.specs.Prelude.{if◌then◌else◌, map, flat_map}
 use Rattle.std.specs.List.{list_all}
 use Rattle.sled_parser.specs.declared.class.Class.{Class}
 use Rattle.sled_parser.specs.declared.class.Class.TheVariants as class
@@ -15,16 +15,16 @@ use Rattle.sled_parser.specs.declared.tree.Section.{Section}
 use Rattle.sled_parser.specs.declared.tree.Section.TheVariants as section
 use Rattle.sled_parser.specs.declared.tree.Decl.{Decl}
 use Rattle.sled_parser.specs.declared.tree.Decl.TheVariants as decl
-use Rattle.sled_parser.specs.Pieces.{Piece, Input, Outcome, Parser, and_then, pure, pass, sees, ahead, next, text_of}
+use Rattle.sled_parser.specs.Pieces.{Piece, Input, Parser, and_then, pure, pass, sees, ahead, next, text_of}
 use Rattle.sled_parser.specs.Grammar.{chain_from, pattern_at}
-use Rattle.sled_parser.specs.EquationGrammar.{many_from, name, braced_equations}
+use Rattle.sled_parser.specs.EquationGrammar.{name, braced_equations}
 use Rattle.sled_parser.specs.DeclarationGrammar.{field_of, fields_of, class_of, class_decl, item_by, item_of, sees_item, items_from, listed_items, items_of, definition_at, typed, operand_after, operand_of, operands_of, result_of, constructor_with, constructor_at, definition_in, declaration_by, declaration_at, declarations_from, declarations_at}
-use Rattle.sled_parser.specs.Trees.{piece_for, word, number, is_name, join, spelling, grade}
-use Rattle.sled_parser.specs.Equations.{equation_spelling, equation_layered}
-use Rattle.sled_parser.specs.Declarations.{field_spelling, field_layered, item_spelling, item_layered, operand_spelling, operand_layered, little_spelling, items_spelling, items_layered, result_spelling, result_layered, equations_spelling, decl_spelling, decl_layered, in_patterns, in_constructors, section_after, description_spelling, layered_in, description_layered, IsDescription}
+use Rattle.sled_parser.specs.Trees.{piece_for, word, number, is_name, join, spelling}
+use Rattle.sled_parser.specs.Equations.{equation_layered}
+use Rattle.sled_parser.specs.Declarations.{field_spelling, field_layered, item_spelling, item_layered, operand_spelling, operand_layered, little_spelling, items_spelling, items_layered, result_spelling, result_layered, equations_spelling, decl_spelling, decl_layered, section_after, description_spelling, layered_in, description_layered, IsDescription}
 use Rattle.sled_parser.proofs.ClassLaws.{sees_fixed, sees_ahead, ahead_sees, ahead_end, name_ahead}
-use Rattle.sled_parser.proofs.Sound.{bind_ok, and_both, both_true, Sound, chain_sound, fits, pattern_sound}
-use Rattle.sled_parser.proofs.EquationSound.{given, SoundWhere, many_sound, pure_ok, after_read, after_pass, after_number, after_name, after_part, braced_equations_sound}
+use Rattle.sled_parser.proofs.Sound.{and_both, both_true, Sound, chain_sound, fits, pattern_sound}
+use Rattle.sled_parser.proofs.EquationSound.{given, many_sound, pure_ok, after_read, after_pass, after_number, after_name, after_part, braced_equations_sound}
 
 -- ---- classes
 

@@ -1,6 +1,6 @@
 -- How deep brackets stand inside one another in a description.
-use Rattle.std.proofs.Common.{◌≡◌, ℕ, suc, ◌+◌, ◌≤◌, Bool, true, false, List, [], ◌∷◌, ◌++◌, refl, ap, sym, subst, arith, append_assoc, Option, Some, None}
-use Rattle.std.specs.Prelude.{map, flat_map, max, if◌then◌else◌}
+use Rattle.std.proofs.Common.{◌≡◌, ℕ, ◌+◌, ◌≤◌, Bool, true, false, List, [], ◌∷◌, ◌++◌, refl, ap, subst, arith, append_assoc, Option, Some, None}
+use Rattle.std.specs.Prelude.{map, flat_map, max}
 use Rattle.sled_lexer.specs.declared.Lexeme.{Lexeme}
 use Rattle.sled_parser.specs.declared.class.Class.{Class}
 use Rattle.sled_parser.specs.declared.class.Class.TheVariants as class
@@ -13,7 +13,6 @@ use Rattle.sled_parser.specs.declared.tree.PlaceTree.{PlaceTree}
 use Rattle.sled_parser.specs.declared.tree.PlaceTree.TheVariants as place
 use Rattle.sled_parser.specs.declared.tree.TermTree.{TermTree}
 use Rattle.sled_parser.specs.declared.tree.TermTree.TheVariants as term
-use Rattle.sled_parser.specs.declared.tree.SumTree.{SumTree}
 use Rattle.sled_parser.specs.declared.tree.EqTree.{EqTree}
 use Rattle.sled_parser.specs.declared.tree.Section.{Section}
 use Rattle.sled_parser.specs.declared.tree.Section.TheVariants as section
@@ -25,7 +24,7 @@ use Rattle.sled_parser.specs.Nesting.{opens, closes, nest_fault}
 use Rattle.sled_parser.specs.Equations.{place_spelling, is_minus, term_spelling, first_sign, later_sign, first_spelling, later_spelling, terms_spelling, sum_spelling, equation_spelling}
 use Rattle.sled_parser.specs.Declarations.{field_spelling, item_spelling, operand_spelling, little_spelling, items_spelling, result_spelling, equations_spelling, heading_piece, decl_spelling, description_spelling, decl_nesting, description_nesting, IsDescription}
 use Rattle.sled_parser.proofs.ClassLaws.{is_fixed}
-use Rattle.sled_parser.proofs.NestingLaws.{Nests, IsFlat, Opens, Closes, EachNests, is_shallow, shallow_pieces, nests_nil, nests_flat, nests_append, nests_bracket, nests_join, nests_fewer, flat_word, flat_number, flat_for, opens_for, closes_for, pattern_nests}
+use Rattle.sled_parser.proofs.NestingLaws.{Nests, EachNests, is_shallow, shallow_pieces, nests_nil, nests_flat, nests_append, nests_bracket, nests_join, nests_fewer, flat_word, flat_number, flat_for, opens_for, closes_for, pattern_nests}
 
 -- ---- wholes from parts
 

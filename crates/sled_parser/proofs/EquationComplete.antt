@@ -1,6 +1,6 @@
 -- What layered equations unparse to is read as these equations.
-use Rattle.std.proofs.Common.{◌≡◌, ℕ, zero, suc, ◌+◌, ◌<◌, ◌≤◌, Bool, true, false, List, [], ◌∷◌, ◌++◌, length, refl, ap, sym, ◌∙◌, subst, arith, append_assoc, append-nil, length-append, Ok, Err, Option, Some, None}
-use Rattle.std.specs.Prelude.{◌&&◌, ◌||◌, if◌then◌else◌, map, flat_map, nat_lt}
+use Rattle.std.proofs.Common.{◌≡◌, ℕ, zero, suc, ◌<◌, ◌≤◌, Bool, true, false, List, [], ◌∷◌, ◌++◌, length, refl, ap, sym, ◌∙◌, subst, arith, append_assoc, append-nil, length-append, Ok, Some, None}
+use Rattle.std.specs.Prelude.{◌||◌, map, flat_map, nat_lt}
 use Rattle.std.specs.List.{list_all}
 use Rattle.sled_parser.specs.declared.class.Class.{Class}
 use Rattle.sled_parser.specs.declared.class.Class.TheVariants as class
@@ -10,9 +10,8 @@ use Rattle.sled_parser.specs.declared.tree.TermTree.{TermTree}
 use Rattle.sled_parser.specs.declared.tree.TermTree.TheVariants as term
 use Rattle.sled_parser.specs.declared.tree.SumTree.{SumTree}
 use Rattle.sled_parser.specs.declared.tree.EqTree.{EqTree}
-use Rattle.sled_parser.specs.Pieces.{Piece, Input, Outcome, Parser, and_then, pass, sees, ahead, next, text_of}
-use Rattle.sled_parser.specs.Grammar.{chain_from}
-use Rattle.sled_parser.specs.EquationGrammar.{many_from, name, slice_of, sliced, placed, place_of, numbered, term_of, first_term, sees_sign, later_term, terms_after, sum_of, equation_of, equations_of, braced_equations}
+use Rattle.sled_parser.specs.Pieces.{Piece, Input, Outcome, Parser, sees, ahead, next, text_of}
+use Rattle.sled_parser.specs.EquationGrammar.{many_from, name, slice_of, sliced, placed, place_of, numbered, term_of, first_term, sees_sign, later_term, sum_of, equation_of, equations_of, braced_equations}
 use Rattle.sled_parser.specs.Trees.{piece_for, word, number, is_name, join}
 use Rattle.sled_parser.specs.Equations.{place_spelling, place_layered, is_minus, term_spelling, term_layered, first_sign, later_sign, first_spelling, later_spelling, terms_spelling, sum_spelling, sum_layered, equation_spelling, equation_layered}
 use Rattle.sled_parser.specs.Declarations.{equations_spelling}

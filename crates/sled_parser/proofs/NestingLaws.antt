@@ -18,7 +18,7 @@
 --   nests_within            Nests n s → is_shallow 0 (u ++ (s ++ r)) ≡ true → depth_after 0 u + n ≤ 64
 --   pattern_within          is_shallow 0 (u ++ (spelling t ++ r)) ≡ true → depth_after 0 u + nesting t ≤ 64
 --   pattern_level           depth_after d (spelling t) ≡ d
-use Rattle.std.proofs.Common.{◌≡◌, ℕ, zero, suc, ◌+◌, ◌-◌, ◌<◌, ◌≤◌, Bool, true, false, List, [], ◌∷◌, ◌++◌, refl, ap, sym, ◌∙◌, subst, arith, append-nil, Option, Some, None}
+use Rattle.std.proofs.Common.{◌≡◌, ℕ, suc, ◌+◌, ◌-◌, ◌≤◌, Bool, true, false, List, [], ◌∷◌, ◌++◌, refl, ap, ◌∙◌, subst, arith, Some, None}
 use Rattle.std.specs.Prelude.{◌&&◌, not, if◌then◌else◌, map, nat_le, max}
 use Rattle.std.proofs.lemmas.Bool.Decides.{nat_tests}
 use Rattle.sled_lexer.specs.declared.Kind.TheVariants as kind
@@ -35,7 +35,7 @@ use Rattle.sled_parser.specs.declared.tree.RelationTree.{RelationTree}
 use Rattle.sled_parser.specs.declared.tree.RelationTree.TheVariants as relation
 use Rattle.sled_parser.specs.declared.tree.ValueTree.{ValueTree}
 use Rattle.sled_parser.specs.declared.tree.ValueTree.TheVariants as value
-use Rattle.sled_parser.specs.Pieces.{Piece, Input, piece, pieces, class_of, word_class}
+use Rattle.sled_parser.specs.Pieces.{Piece, Input, piece, pieces, word_class}
 use Rattle.sled_parser.specs.Trees.{piece_for, word, number, followed, join, relation_piece, value_spelling, argument_spelling, spelling, deepest, nesting, argument_nesting}
 use Rattle.sled_parser.specs.Nesting.{opens, closes, depth_behind, too_deep, class_at, nest_fault, nest_fault_from}
 use Rattle.sled_parser.proofs.ClassLaws.{is_fixed, class_for, is_word_class, word_class_is}

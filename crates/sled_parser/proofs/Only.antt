@@ -1,5 +1,5 @@
 -- A list of lexemes is at most one statement.
-use Rattle.std.proofs.Common.{◌≡◌, ℕ, suc, ◌+◌, ◌≤◌, List, [], refl, ap, sym, ◌∙◌, arith, Ok, Err}
+use Rattle.std.proofs.Common.{◌≡◌, ℕ, suc, ◌≤◌, [], ap, sym, ◌∙◌, arith, Ok}
 use Rattle.std.specs.Prelude.{max}
 use Rattle.sled_parser.specs.declared.tree.MatchTree.{MatchTree}
 use Rattle.sled_parser.specs.Pieces.{Input, Outcome}

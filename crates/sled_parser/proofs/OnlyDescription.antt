@@ -1,5 +1,5 @@
 -- A list of lexemes is the description of at most one list of declarations.
-use Rattle.std.proofs.Common.{◌≡◌, ℕ, suc, ◌≤◌, List, [], refl, ap, sym, ◌∙◌, arith, Ok}
+use Rattle.std.proofs.Common.{◌≡◌, ℕ, suc, ◌≤◌, List, [], ap, sym, ◌∙◌, arith, Ok}
 use Rattle.std.specs.Prelude.{max}
 use Rattle.sled_parser.specs.declared.tree.Decl.{Decl}
 use Rattle.sled_parser.specs.Pieces.{Input}

@@ -1,18 +1,16 @@
 -- A layered statement is read back from what it unparses to.
-use Rattle.std.proofs.Common.{◌≡◌, ℕ, zero, suc, ◌+◌, ◌<◌, ◌≤◌, Bool, true, false, List, [], ◌∷◌, ◌++◌, length, refl, ap, sym, ◌∙◌, subst, arith, append_assoc, append-nil, length-append, Ok, Err, Option, Some, None}
-use Rattle.std.specs.Prelude.{◌&&◌, if◌then◌else◌, flat_map, nat_eq}
+use Rattle.std.proofs.Common.{◌≡◌, ℕ, zero, suc, ◌≤◌, true, false, List, [], ◌∷◌, ◌++◌, length, refl, ap, sym, ◌∙◌, arith, append_assoc, append-nil, length-append, Ok, Option, Some, None}
+use Rattle.std.specs.Prelude.{flat_map, nat_eq}
 use Rattle.std.specs.List.{list_all}
 use Rattle.sled_parser.specs.declared.class.Class.{Class}
 use Rattle.sled_parser.specs.declared.class.Class.TheVariants as class
-use Rattle.sled_parser.specs.declared.tree.PatternTree.{PatternTree}
 use Rattle.sled_parser.specs.declared.tree.ArmTree.{ArmTree}
 use Rattle.sled_parser.specs.declared.tree.ArmsTree.{ArmsTree}
 use Rattle.sled_parser.specs.declared.tree.ArmsTree.TheVariants as arms
 use Rattle.sled_parser.specs.declared.tree.MatchTree.{MatchTree}
 use Rattle.sled_parser.specs.Classes.{same_class}
 use Rattle.sled_parser.specs.Classes as classes
-use Rattle.sled_parser.specs.Pieces.{Piece, Input, Outcome, pass, sees, ahead, next, text_of, finish}
-use Rattle.sled_parser.specs.Grammar.{pattern_at}
+use Rattle.sled_parser.specs.Pieces.{Input, Outcome, sees, ahead, next, text_of, finish}
 use Rattle.sled_parser.specs.Trees.{piece_for, number, spelling, nesting}
 use Rattle.sled_parser.specs.Statements.{quoted, arm_spelling, arm_layered, arms_spelling, arms_layered, skip_spelling, statement_spelling, statement_layered}
 use Rattle.sled_parser.specs.StatementGrammar.{action, arm_at, arms_from, arms_at, skip_of, statement_at, whole_statement}

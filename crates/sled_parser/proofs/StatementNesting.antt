@@ -1,5 +1,5 @@
 -- How deep brackets stand inside one another in a statement.
-use Rattle.std.proofs.Common.{◌≡◌, ℕ, ◌+◌, ◌≤◌, true, List, [], ◌∷◌, ◌++◌, refl, sym, ◌∙◌, subst, arith, append-nil, Option, Some, None}
+use Rattle.std.proofs.Common.{◌≡◌, ℕ, ◌+◌, ◌≤◌, true, List, [], ◌∷◌, refl, subst, arith, Option, Some, None}
 use Rattle.std.specs.Prelude.{flat_map, max}
 use Rattle.sled_lexer.specs.declared.Lexeme.{Lexeme}
 use Rattle.sled_parser.specs.declared.class.Class.TheVariants as class
@@ -7,7 +7,7 @@ use Rattle.sled_parser.specs.declared.tree.ArmTree.{ArmTree}
 use Rattle.sled_parser.specs.declared.tree.ArmsTree.{ArmsTree}
 use Rattle.sled_parser.specs.declared.tree.ArmsTree.TheVariants as arms
 use Rattle.sled_parser.specs.declared.tree.MatchTree.{MatchTree}
-use Rattle.sled_parser.specs.Pieces.{Input, pieces}
+use Rattle.sled_parser.specs.Pieces.{pieces}
 use Rattle.sled_parser.specs.Trees.{piece_for, number, spelling, nesting}
 use Rattle.sled_parser.specs.Nesting.{nest_fault}
 use Rattle.sled_parser.specs.Statements.{quoted, arm_spelling, arms_spelling, skip_spelling, statement_spelling, IsStatement}

@@ -1,10 +1,9 @@
 -- A statement that is read is layered, and is what its tree unparses to.
-use Rattle.std.proofs.Common.{◌≡◌, ℕ, zero, suc, Bool, true, false, List, [], ◌∷◌, ◌++◌, length, refl, ap, sym, ◌∙◌, subst, arith, append_assoc, append-nil, Ok, Err, Option, Some, None}
-use Rattle.std.specs.Prelude.{◌&&◌, if◌then◌else◌, flat_map}
+use Rattle.std.proofs.Common.{◌≡◌, ℕ, zero, suc, Bool, true, false, List, [], ◌∷◌, ◌++◌, length, refl, ap, sym, ◌∙◌, subst, append_assoc, append-nil, Ok, Err, Option, Some, None}
+use Rattle.std.specs.Prelude.{if◌then◌else◌, flat_map}
 use Rattle.std.specs.List.{list_all}
 use Rattle.sled_lexer.specs.declared.Kind.{Kind}
 use Rattle.sled_lexer.specs.declared.Kind.TheVariants as kind
-use Rattle.sled_parser.specs.declared.class.Class.{Class}
 use Rattle.sled_parser.specs.declared.class.Class.TheVariants as class
 use Rattle.sled_parser.specs.declared.tree.PatternTree.{PatternTree}
 use Rattle.sled_parser.specs.declared.tree.ArmTree.{ArmTree}

@@ -1,10 +1,9 @@
 -- A whole text is a statement exactly where the rule reads all of it.
-use Rattle.std.proofs.Common.{◌≡◌, ℕ, ◌≤◌, List, [], refl, sym, ◌∙◌, arith, Ok, Err, Result, None}
+use Rattle.std.proofs.Common.{◌≡◌, ℕ, ◌≤◌, List, [], sym, ◌∙◌, arith, Ok, Err, None}
 use Rattle.sled_lexer.specs.declared.Lexeme.{Lexeme}
 use Rattle.sled_parser.specs.declared.tree.MatchTree.{MatchTree}
 use Rattle.sled_parser.specs.declared.fault.Fault.{Fault}
 use Rattle.sled_parser.specs.declared.fault.Fault.TheVariants as fault
-use Rattle.sled_parser.specs.declared.fault.SyntaxFault.{SyntaxFault}
 use Rattle.sled_parser.specs.declared.fault.SyntaxFault.TheVariants as syntax
 use Rattle.sled_parser.specs.Pieces.{Input, Outcome, Reads, pieces}
 use Rattle.sled_parser.specs.Nesting.{nest_fault}

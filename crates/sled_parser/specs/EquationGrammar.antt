@@ -1,5 +1,5 @@
 -- The rules of equations, each as a parser.
-use Rattle.std.specs.Prelude.{ℕ, zero, suc, Bool, true, false, ◌||◌, if◌then◌else◌, List, [], ◌∷◌, ◌++◌, length, Option, Some, None, Ok, Err}
+use Rattle.std.specs.Prelude.{ℕ, zero, suc, Bool, ◌||◌, if◌then◌else◌, List, [], ◌∷◌, ◌++◌, length, Some, None, Ok}
 use Rattle.sled_parser.specs.declared.class.Class.TheVariants as class
 use Rattle.sled_parser.specs.declared.tree.PlaceTree.{PlaceTree}
 use Rattle.sled_parser.specs.declared.tree.PlaceTree.TheVariants as place
@@ -7,7 +7,7 @@ use Rattle.sled_parser.specs.declared.tree.TermTree.{TermTree}
 use Rattle.sled_parser.specs.declared.tree.TermTree.TheVariants as term
 use Rattle.sled_parser.specs.declared.tree.SumTree.{SumTree}
 use Rattle.sled_parser.specs.declared.tree.EqTree.{EqTree}
-use Rattle.sled_parser.specs.Pieces.{Input, Parser, ◌>>=◌, ◌>>◌, pure, refuse, peek, step, eat, pass, take_text, looks, sees}
+use Rattle.sled_parser.specs.Pieces.{Input, Parser, ◌>>=◌, pure, refuse, step, eat, pass, take_text, looks, sees}
 use Rattle.sled_parser.specs.Grammar.{number, chain}
 
 -- items, as many as come: one more where `more` sees one. The number bounds the turns, and each turn takes a lexeme.

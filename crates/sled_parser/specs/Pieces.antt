@@ -1,5 +1,5 @@
 -- What a parser reads from, and the steps that every rule is made of.
-use Rattle.std.specs.Prelude.{◌≡◌, ℕ, zero, suc, ◌≤◌, Bool, true, false, not, ◌&&◌, ◌||◌, if◌then◌else◌, List, [], ◌∷◌, ◌++◌, length, slice_range, Option, Some, None, Result, Ok, Err, bytes_eq, codes}
+use Rattle.std.specs.Prelude.{◌≡◌, ℕ, Bool, ◌&&◌, if◌then◌else◌, List, [], ◌∷◌, slice_range, Result, Ok, Err, bytes_eq, codes}
 use Rattle.sled_lexer.specs.declared.Kind.{Kind}
 use Rattle.sled_lexer.specs.declared.Kind.TheVariants as kind
 use Rattle.sled_lexer.specs.declared.Lexeme.{Lexeme}

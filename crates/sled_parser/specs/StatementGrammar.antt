@@ -1,5 +1,5 @@
 -- The rules of statements, each as a parser.
-use Rattle.std.specs.Prelude.{ℕ, zero, suc, if◌then◌else◌, List, [], ◌∷◌, ◌++◌, length, Option, Some, None, Ok, Err}
+use Rattle.std.specs.Prelude.{ℕ, zero, suc, if◌then◌else◌, List, [], ◌∷◌, ◌++◌, length, Option, Some, None}
 use Rattle.sled_parser.specs.declared.class.Class.TheVariants as class
 use Rattle.sled_parser.specs.declared.tree.ArmTree.{ArmTree}
 use Rattle.sled_parser.specs.declared.tree.ArmsTree.{ArmsTree}

@@ -1,5 +1,5 @@
 -- The lexemes that a tree unparses to, and where its parts stand.
-use Rattle.std.specs.Prelude.{◌≡◌, ℕ, suc, ◌≤◌, Bool, true, false, ◌&&◌, List, [], ◌∷◌, ◌++◌, length, max, nat_le, nat_lt, map, fold, codes, Result, Ok, Err}
+use Rattle.std.specs.Prelude.{◌≡◌, ℕ, suc, Bool, true, ◌&&◌, List, [], ◌∷◌, ◌++◌, length, max, nat_le, nat_lt, map, codes}
 use Rattle.std.specs.List.{list_all}
 use Rattle.sled_lexer.specs.declared.Kind.TheVariants as kind
 use Rattle.sled_parser.specs.declared.class.Class.{Class}
@@ -15,7 +15,7 @@ use Rattle.sled_parser.specs.declared.tree.RelationTree.TheVariants as relation
 use Rattle.sled_parser.specs.declared.tree.ValueTree.{ValueTree}
 use Rattle.sled_parser.specs.declared.tree.ValueTree.TheVariants as value
 use Rattle.sled_parser.specs.Classes.{same_class}
-use Rattle.sled_parser.specs.Pieces.{Piece, Input, word_class}
+use Rattle.sled_parser.specs.Pieces.{Piece, word_class}
 
 abbrev pub mark : List ℕ → Piece
 mark t = record { kind = kind.Mark; text = t }

@@ -1,7 +1,5 @@
 use Rattle.std.proofs.Common.{rules, arith}
 use Rattle.std.proofs.lemmas.Grind.{common_steps}
-use Rattle.sled_parser.specs.declared.class.Class.TheVariants as class
-use Rattle.sled_parser.specs.Pieces.{sees}
 use Rattle.sled_parser.specs.EquationGrammar.{many_from}
 use Rattle.sled_parser.specs.DeclarationGrammar as spec
 use Rattle.sled_parser.proofs.Turns.{one_more}

@@ -1,6 +1,4 @@
 use Rattle.std.proofs.Common.{◌≡◌, ◌-◌}
-use Rattle.sled_parser.specs.declared.class.Class.TheVariants as class
-use Rattle.sled_parser.specs.Pieces.{sees}
 use Rattle.sled_parser.specs.EquationGrammar.{many_from}
 use Rattle.sled_parser.specs.DeclarationGrammar as spec
 use Rattle.sled_parser.proofs.declaration.items.Given as goal

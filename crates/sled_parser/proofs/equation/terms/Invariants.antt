@@ -1,4 +1,4 @@
-use Rattle.std.proofs.Common.{◌≡◌, ◌-◌, ◌∷◌, []}
+use Rattle.std.proofs.Common.{◌≡◌, ◌-◌}
 use Rattle.sled_parser.specs.EquationGrammar as spec
 use Rattle.sled_parser.proofs.equation.terms.Given as goal
 

@@ -1,4 +1,4 @@
-use Rattle.std.proofs.Common.{◌≡◌, subst, sym, ◌∙◌, Result, Ok, Err, None, rules}
+use Rattle.std.proofs.Common.{◌≡◌, subst, sym, ◌∙◌, Result, Err, None, rules}
 use Rattle.sled_lexer.proofs.Exact.{within}
 use Rattle.sled_parser.specs.declared.tree.MatchTree.{MatchTree}
 use Rattle.sled_parser.specs.declared.fault.SyntaxFault.{SyntaxFault}

@@ -1,4 +1,4 @@
-use Rattle.std.proofs.Common.{◌≡◌, List, subst, sym, ◌∙◌, Result, Ok, Err, None, rules}
+use Rattle.std.proofs.Common.{◌≡◌, List, subst, sym, ◌∙◌, Result, Err, None, rules}
 use Rattle.std.specs.declared.vec.Vec.{Vec}
 use Rattle.sled_lexer.proofs.Exact.{within}
 use Rattle.sled_parser.specs.declared.tree.Decl.{Decl}
