@@ -1,6 +1,6 @@
 -- A class that is one lexeme, and the lexeme.
 use Rattle.std.proofs.Common.{◌≡◌, ℕ, Bool, true, false, List, [], ◌∷◌, refl, ap, sym, ◌∙◌, subst, arith}
-use Rattle.std.specs.Prelude.{◌==◌, if◌then◌else◌, bytes_eq, codes, nat_eq}
+use Rattle.std.specs.Prelude.{◌==◌, if◌then◌else◌, bytes_eq, codes}
 use Rattle.std.proofs.lemmas.Slice.Eq.{bytes_eq-Decides}
 use Rattle.std.proofs.lemmas.Bool.Decides.{nat_tests}
 use Rattle.sled_lexer.specs.declared.Kind.{Kind}
@@ -282,7 +282,7 @@ is_mark_class class.Number = false
 is_mark_class class.Text = false
 is_mark_class _ = true
 
-abbrev is_word_class : Class → Bool
+abbrev pub is_word_class : Class → Bool
 is_word_class class.All = true
 is_word_class class.Case = true
 is_word_class class.Constructors = true
@@ -331,7 +331,7 @@ mark_class_is t =
     chosen P (bytes_eq t (codes "*")) class.Star class.Other (λ _. refl) (λ _.
     refl)))))))))))))))))))))))))
 
-word_class_is : (t : List ℕ) → is_word_class (word_class t) ≡ true
+pub word_class_is : (t : List ℕ) → is_word_class (word_class t) ≡ true
 unfolding word_class
 word_class_is t =
     let P : Class → Type 0 = λ c. is_word_class c ≡ true in
@@ -361,6 +361,10 @@ name_ahead (q ∷ i) h = by_kind q.kind q.text h
     by_kind kind.Number t e = absurd cc
     by_kind kind.Text t e = absurd cc
     by_kind kind.Mark t e = absurd (let bad : is_mark_class class.Name ≡ true = rw e at (mark_class_is t) in cc)
+
+-- no mark has the class of a Text
+pub no_mark_text : (t : List ℕ) → mark_class t ≡ class.Text → ⊥
+no_mark_text t e = let bad : is_mark_class class.Text ≡ true = rw e at (mark_class_is t) in cc
 
 pub number_ahead : (i : Input) → ahead i ≡ class.Number → i ≡ tree.number (text_of i) ∷ next i
 unfolding ahead next text_of

@@ -1,6 +1,6 @@
 -- What a layered tree unparses to is read as that tree, whatever stands behind it that does not go on with it.
-use Rattle.std.proofs.Common.{◌≡◌, ℕ, zero, suc, ◌+◌, ◌<◌, ◌≤◌, Bool, true, false, List, [], ◌∷◌, ◌++◌, length, refl, ap, sym, ◌∙◌, subst, arith, append_assoc, append-nil, Ok, Err, Option, Some, None}
-use Rattle.std.specs.Prelude.{◌&&◌, if◌then◌else◌, map, nat_le, nat_lt}
+use Rattle.std.proofs.Common.{◌≡◌, ℕ, zero, suc, ◌<◌, ◌≤◌, Bool, true, false, List, [], ◌∷◌, ◌++◌, length, refl, ap, sym, ◌∙◌, subst, arith, append_assoc, append-nil, Ok, Some, None}
+use Rattle.std.specs.Prelude.{◌&&◌, map, nat_le, nat_lt}
 use Rattle.std.specs.List.{list_all}
 use Rattle.std.proofs.lemmas.Bool.Decides.{nat_tests}
 use Rattle.sled_parser.specs.declared.class.Class.{Class}
@@ -16,14 +16,13 @@ use Rattle.sled_parser.specs.declared.tree.RelationTree.TheVariants as relation
 use Rattle.sled_parser.specs.declared.tree.ValueTree.{ValueTree}
 use Rattle.sled_parser.specs.declared.tree.ValueTree.TheVariants as value
 use Rattle.sled_parser.specs.Classes.{same_class}
-use Rattle.sled_parser.specs.Pieces.{Piece, Input, Outcome, Parser, and_then, pure, refuse, pass, sees, ahead, second, next, text_of, sees_label}
+use Rattle.sled_parser.specs.Pieces.{Piece, Input, Outcome, Parser, pass, sees, ahead, second, next, text_of, sees_label}
 use Rattle.sled_parser.specs.Grammar.{chain_from, numbers_from, range_from, listed_from, braced, value_by, value_of, relation_of, arguments, inner, argument_by, argument_of, arguments_at, limited, unapplied, named, grouped, atom_by, atom, loose, labelled, post, separator, node, joined, level_of, member, at_level, pattern_at}
 use Rattle.sled_parser.specs.Grammar as grammar
-use Rattle.sled_parser.specs.Trees.{piece_for, word, number, is_name, followed, join, relation_piece, value_spelling, value_layered, argument_spelling, argument_layered, spelling, grade, members, mark}
-use Rattle.sled_parser.proofs.ClassLaws.{chosen, is_fixed, same_self, sees_fixed, sees_for, ahead_for, class_for, sees_ahead, ahead_sees, ahead_name, same_true}
-use Rattle.sled_parser.proofs.TreeLaws as tree
+use Rattle.sled_parser.specs.Trees.{piece_for, word, number, is_name, followed, join, relation_piece, value_spelling, value_layered, argument_spelling, argument_layered, spelling, grade, members}
+use Rattle.sled_parser.proofs.ClassLaws.{is_fixed, same_self, sees_for, ahead_for, class_for, sees_ahead, ahead_name, same_true}
 use Rattle.sled_parser.proofs.TreeLaws.{spelling_roll, grade_roll, nesting_roll, argument_roll, layered_roll, argument_nesting_roll}
-use Rattle.sled_parser.proofs.Sound.{and_both, both_true, fits, height, below, wider, followed_join, length_map, all_map}
+use Rattle.sled_parser.proofs.Sound.{and_both, both_true, fits, height, below, length_map, all_map}
 use Rattle.sled_parser.specs.Trees.{deepest, nesting, argument_nesting}
 use Rattle.sled_parser.specs.declared.tree.PatternTree.{roll-PatternTree, out-PatternTree, roll-out-PatternTree}
 use Rattle.sled_parser.specs.declared.tree.PatternTree.TheOpen.{PatternTree-F}
@@ -31,8 +30,7 @@ use Rattle.sled_parser.specs.declared.tree.PatternTree.TheOpen as one
 use Rattle.sled_parser.specs.declared.tree.ArgumentTree.{roll-ArgumentTree, out-ArgumentTree, roll-out-ArgumentTree}
 use Rattle.sled_parser.specs.declared.tree.ArgumentTree.TheOpen.{ArgumentTree-F}
 use Rattle.sled_parser.specs.declared.tree.ArgumentTree.TheOpen as arg
-use Rattle.std.proofs.Common.{length-append, ◌⊎◌, inl, inr}
-use Rattle.std.specs.Prelude.{max}
+use Rattle.std.proofs.Common.{length-append}
 
 -- ---- steps
 
@@ -44,7 +42,7 @@ pub pass_for : (k : Class) → is_fixed k ≡ true → (i : Input) → pass k (p
 unfolding pass next
 pass_for k f i = rw (sees_for k i f) refl
 
-not_same : (a b : Class) (t : Bool) → same_class a b ≡ t → (a ≡ b → ⊥) → t ≡ false
+pub not_same : (a b : Class) (t : Bool) → same_class a b ≡ t → (a ≡ b → ⊥) → t ≡ false
 not_same a b true e no_ = absurd (no_ (same_true a b e))
 not_same a b false e no_ = refl
 
@@ -83,7 +81,7 @@ module _ {A : Type 0} (item : Parser A) (ok : A → Type 0) (s : A → List Piec
 
 -- ---- values
 
-number_for : (n : List ℕ) (i : Input) → grammar.number (number n ∷ i) ≡ Ok (n, i)
+pub number_for : (n : List ℕ) (i : Input) → grammar.number (number n ∷ i) ≡ Ok (n, i)
 unfolding grammar.number sees ahead text_of next
 number_for n i = rw (same_self class.Number) refl
 
@@ -110,7 +108,7 @@ pub other_for : (j k : Class) (i : Input) → is_fixed k ≡ true → (k ≡ j �
 unfolding sees ahead
 other_for j k i f no_ = rw (class_for k f) (not_same k j _ refl no_)
 
-number_other : (k : Class) (n : List ℕ) (r : Input) → (class.Number ≡ k → ⊥) → Other k (number n ∷ r)
+pub number_other : (k : Class) (n : List ℕ) (r : Input) → (class.Number ≡ k → ⊥) → Other k (number n ∷ r)
 unfolding sees ahead
 number_other k n r no_ = not_same class.Number k _ refl no_
 
@@ -711,3 +709,7 @@ pattern_complete (suc n) m h t r f d st =
     let boths = level_complete level.Both n (post (pattern_at n) (arguments_at n)) posts in
     let chains = level_complete level.Chain n (level_of level.Both (post (pattern_at n) (arguments_at n))) boths in
     level_complete level.Either n (level_of level.Chain (level_of level.Both (post (pattern_at n) (arguments_at n)))) chains t r f (omega arith) st
+
+pub stops_at_end : Stops 5 []
+unfolding ahead
+stops_at_end = omega arith

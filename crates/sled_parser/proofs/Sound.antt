@@ -1,5 +1,5 @@
 -- What a rule reads is layered, and is what its tree unparses to.
-use Rattle.std.proofs.Common.{◌≡◌, ℕ, zero, suc, ◌+◌, ◌<◌, ◌≤◌, Bool, true, false, List, [], ◌∷◌, ◌++◌, length, refl, ap, sym, ◌∙◌, subst, arith, append_assoc, append-nil, Ok, Err, Option, Some, None}
+use Rattle.std.proofs.Common.{◌≡◌, ℕ, zero, suc, ◌<◌, ◌≤◌, Bool, true, false, List, [], ◌∷◌, ◌++◌, length, refl, ap, sym, ◌∙◌, subst, arith, append_assoc, append-nil, Ok, Err, Some, None}
 use Rattle.std.specs.Prelude.{◌&&◌, if◌then◌else◌, map, nat_le, nat_lt}
 use Rattle.std.specs.List.{list_all}
 use Rattle.std.proofs.lemmas.Bool.Decides.{nat_tests}
@@ -19,7 +19,7 @@ use Rattle.sled_parser.specs.Pieces.{Piece, Input, Outcome, Parser, and_then, pu
 use Rattle.sled_parser.specs.Grammar.{chain_from, numbers_from, range_from, listed_from, braced, value_by, value_of, relation_of, arguments, inner, argument_by, argument_of, arguments_at, limited, unapplied, named, grouped, atom_by, atom, loose, labelled, post, separator, node, joined, level_of, member, at_level, pattern_at}
 use Rattle.sled_parser.specs.Grammar as grammar
 use Rattle.sled_parser.specs.Trees.{piece_for, word, number, is_name, followed, join, relation_piece, value_spelling, value_layered, argument_spelling, argument_layered, spelling, grade, members}
-use Rattle.sled_parser.proofs.ClassLaws.{chosen, is_fixed, sees_fixed, sees_ahead, ahead_sees, name_ahead, number_ahead, same_true}
+use Rattle.sled_parser.proofs.ClassLaws.{is_fixed, sees_fixed, sees_ahead, ahead_sees, name_ahead, number_ahead, same_true}
 use Rattle.sled_parser.proofs.TreeLaws as tree
 
 -- ---- steps

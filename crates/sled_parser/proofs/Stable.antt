@@ -1,5 +1,5 @@
 -- A rule decides by what it reads and by the class of the lexeme behind it, and what it read begins a tree.
-use Rattle.std.proofs.Common.{◌≡◌, ℕ, zero, suc, ◌+◌, ◌<◌, ◌≤◌, Bool, true, false, List, [], ◌∷◌, ◌++◌, length, refl, ap, sym, ◌∙◌, subst, arith, append_assoc, append-nil, Ok, Err, Result}
+use Rattle.std.proofs.Common.{◌≡◌, ℕ, zero, suc, ◌+◌, ◌<◌, ◌≤◌, Bool, true, false, List, [], ◌∷◌, ◌++◌, length, refl, ap, sym, ◌∙◌, arith, append_assoc, Ok, Err}
 use Rattle.std.specs.Prelude.{if◌then◌else◌, ◌&&◌}
 use Rattle.sled_parser.specs.declared.pattern.Level.{Level}
 use Rattle.sled_parser.specs.declared.pattern.Level.TheVariants as level
@@ -7,7 +7,7 @@ use Rattle.sled_parser.proofs.Sound.{both_true}
 use Rattle.sled_parser.specs.declared.class.Class.{Class}
 use Rattle.sled_parser.specs.declared.class.Class.TheVariants as class
 use Rattle.sled_parser.specs.Classes.{same_class}
-use Rattle.sled_parser.specs.Pieces.{Piece, Input, Outcome, Parser, and_then, pure, refuse, pass, sees, ahead, next, text_of, class_of, second, sees_label}
+use Rattle.sled_parser.specs.Pieces.{Input, Outcome, Parser, and_then, pure, refuse, pass, sees, ahead, next, text_of, class_of, second, sees_label}
 use Rattle.std.proofs.Common.{Option, Some, None}
 use Rattle.sled_parser.specs.declared.tree.PatternTree.{PatternTree}
 use Rattle.sled_parser.specs.declared.tree.PatternTree.TheVariants as p
@@ -19,10 +19,9 @@ use Rattle.sled_parser.specs.declared.tree.ValueTree.TheVariants as value
 use Rattle.sled_parser.proofs.ClassLaws.{number_ahead, sees_ahead}
 use Rattle.sled_parser.specs.Grammar.{chain_from, numbers_from, range_from, listed_from, braced, value_by, value_of, relation_of, arguments, inner, argument_by, argument_of, arguments_at, limited, unapplied, named, grouped, atom_by, atom, loose, labelled, post, separator, joined, level_of, member, at_level, pattern_at}
 use Rattle.sled_parser.specs.Grammar as grammar
-use Rattle.sled_parser.specs.Trees.{piece_for}
 use Rattle.std.proofs.Common.{length-append}
 use Rattle.std.proofs.lemmas.List.{append_cancel_right}
-use Rattle.sled_parser.proofs.ClassLaws.{same_true, same_self, ahead_end, is_fixed, sees_fixed}
+use Rattle.sled_parser.proofs.ClassLaws.{same_true, ahead_end, is_fixed, sees_fixed}
 
 -- the same outcome, with another rest
 abbrev pub with_rest : {A : Type 0} → Outcome A → Input → Outcome A

@@ -1,5 +1,5 @@
 -- The rules of patterns, each as a parser.
-use Rattle.std.specs.Prelude.{ℕ, zero, suc, Bool, true, false, ◌&&◌, if◌then◌else◌, List, [], ◌∷◌, ◌++◌, length, Option, Some, None, Ok, Err}
+use Rattle.std.specs.Prelude.{ℕ, zero, suc, Bool, if◌then◌else◌, List, [], ◌∷◌, ◌++◌, length, Option, Some, None}
 use Rattle.sled_parser.specs.declared.class.Class.{Class}
 use Rattle.sled_parser.specs.declared.class.Class.TheVariants as class
 use Rattle.sled_parser.specs.declared.pattern.Level.{Level}

@@ -1,5 +1,5 @@
 -- What a parser reads from, and the steps that every rule is made of.
-use Rattle.std.specs.Prelude.{◌≡◌, ℕ, zero, suc, ◌≤◌, Bool, true, false, not, ◌&&◌, ◌||◌, if◌then◌else◌, List, [], ◌∷◌, ◌++◌, length, slice_range, Option, Some, None, Result, Ok, Err, bytes_eq, codes}
+use Rattle.std.specs.Prelude.{◌≡◌, ℕ, Bool, ◌&&◌, if◌then◌else◌, List, [], ◌∷◌, slice_range, Result, Ok, Err, bytes_eq, codes}
 use Rattle.sled_lexer.specs.declared.Kind.{Kind}
 use Rattle.sled_lexer.specs.declared.Kind.TheVariants as kind
 use Rattle.sled_lexer.specs.declared.Lexeme.{Lexeme}
@@ -20,10 +20,6 @@ piece text l = record { kind = l.kind; text = slice_range text l.span.start l.sp
 abbrev pub pieces : List ℕ → List Lexeme → List Piece
 pieces text [] = []
 pieces text (l ∷ ls) = piece text l ∷ pieces text ls
-
-abbrev pub AllWithin : List ℕ → List Lexeme → Type 0
-AllWithin text [] = Unit {0}
-AllWithin text (l ∷ ls) = ((l.span.start ≤ l.span.end) × (l.span.end ≤ length text)) × AllWithin text ls
 
 -- ---- what a lexeme means to the grammar
 
@@ -155,6 +151,10 @@ take_text = λ i. Ok (text_of i, next i)
 -- takes a lexeme of this class, or refuses
 unfoldable pub pass : Class → Parser (Unit {0})
 pass k = λ i. if sees k i then Ok (tt, next i) else Err i
+
+-- No lexeme is left, or it is refused.
+unfoldable pub finish : Parser (Unit {0})
+finish = λ i. if sees class.End i then Ok (tt, i) else Err i
 
 -- ---- what a function that parses ensures: the parser's outcome, unless memory fails
 

@@ -1,5 +1,5 @@
 -- The lexemes that a tree unparses to, and where its parts stand.
-use Rattle.std.specs.Prelude.{◌≡◌, ℕ, suc, ◌≤◌, Bool, true, false, ◌&&◌, List, [], ◌∷◌, ◌++◌, length, max, nat_le, nat_lt, map, fold, codes, Result, Ok, Err}
+use Rattle.std.specs.Prelude.{◌≡◌, ℕ, suc, Bool, true, ◌&&◌, List, [], ◌∷◌, ◌++◌, length, max, nat_le, nat_lt, map, codes}
 use Rattle.std.specs.List.{list_all}
 use Rattle.sled_lexer.specs.declared.Kind.TheVariants as kind
 use Rattle.sled_parser.specs.declared.class.Class.{Class}
@@ -14,10 +14,8 @@ use Rattle.sled_parser.specs.declared.tree.RelationTree.{RelationTree}
 use Rattle.sled_parser.specs.declared.tree.RelationTree.TheVariants as relation
 use Rattle.sled_parser.specs.declared.tree.ValueTree.{ValueTree}
 use Rattle.sled_parser.specs.declared.tree.ValueTree.TheVariants as value
-use Rattle.sled_parser.specs.declared.fault.Fault.{Fault}
-use Rattle.sled_parser.specs.declared.fault.Fault.TheVariants as fault
 use Rattle.sled_parser.specs.Classes.{same_class}
-use Rattle.sled_parser.specs.Pieces.{Piece, Input, word_class}
+use Rattle.sled_parser.specs.Pieces.{Piece, word_class}
 
 abbrev pub mark : List ℕ → Piece
 mark t = record { kind = kind.Mark; text = t }
@@ -191,15 +189,3 @@ nesting_step (p.Apply w args) = suc (deepest (map argument_nesting args))
 
 unfoldable pub nesting : PatternTree → ℕ
 nesting = fold-PatternTree ℕ nesting_step
-
--- ---- whole lists of lexemes
-
--- the list is what the layered tree unparses to
-abbrev pub IsSentenceOf : Input → PatternTree → Type 0
-IsSentenceOf i t = IsLayered t × (i ≡ spelling t)
-
--- the answer is this tree, unless memory failed
-abbrev pub Answers : PatternTree → Result PatternTree Fault → Type 0
-Answers t (Ok u) = u ≡ t
-Answers t (Err fault.Syntax) = ⊥
-Answers t (Err fault.NoMemory) = Unit {0}

@@ -1,11 +1,8 @@
 //! Patterns, by recursive descent.
 
-ghost use Rattle.std.specs.Prelude.{◌≡◌, ◌<◌, ◌≤◌, ◌∷◌, [], IfOk};
+ghost use Rattle.std.specs.Prelude.{◌≡◌};
 ghost use Rattle.sled_parser.specs.Pieces.{Reads};
-ghost use Rattle.sled_parser.specs.Pieces.{pieces, AllWithin};
 ghost use Rattle.sled_parser.specs.Grammar as spec;
-ghost use Rattle.sled_parser.specs.declared.tree.PatternTree.{PatternTree};
-ghost use Rattle.sled_parser.specs.Trees.{IsSentenceOf, Answers, nesting};
 
 use crate::class::Class;
 use crate::cursor::Cursor;
@@ -14,7 +11,6 @@ use crate::tree::{
     ArgumentTree, ArgumentTreeList, PatternTree, PatternTreeList, RelationTree, Spelling,
     SpellingList, ValueTree,
 };
-use sled_lexer::Lexeme;
 use sqlite_items::Boxed;
 use std::alloc::Global;
 
@@ -56,8 +52,9 @@ fn joined(level: Level, mut items: PatternTreeList) -> PatternTree
     node(level, items)
 }
 
+/// The text of a number, if one comes next.
 #[tactic(auto, unfolding(crate::specs::Grammar::number))]
-fn number(alloc: Global, cursor: &mut Cursor<'_>) -> Result<Spelling, Fault>
+pub fn number(alloc: Global, cursor: &mut Cursor<'_>) -> Result<Spelling, Fault>
     ensures { Reads (spec.number cursor.old) result cursor.new }
 {
     if cursor.sees(Class::Number) {
@@ -369,24 +366,4 @@ pub fn pattern(alloc: Global, cursor: &mut Cursor<'_>, depth: u32) -> Result<Pat
         return Err(Fault::Syntax);
     }
     chain(alloc, cursor, depth - 1, Level::Either)
-}
-
-/// The only tree of a pattern that is the whole text.
-pub fn parse_pattern(alloc: Global, text: &[u8], lexemes: &[Lexeme]) -> Result<PatternTree, Fault>
-    requires { AllWithin text.now lexemes.now }
-    // What is answered unparses to the lexemes.
-    ensures tree { IfOk result (λ t. IsSentenceOf (pieces text.now lexemes.now) t) }
-    // A layered tree that unparses to them is the answer.
-    ensures only { (t : PatternTree) → IsSentenceOf (pieces text.now lexemes.now) t → nesting t ≤ 64 → Answers t result }
-{
-    let mut cursor = Cursor::new(text, lexemes);
-    match pattern(alloc, &mut cursor, 65) {
-        Ok(tree) => {
-            if cursor.left() > 0 {
-                return Err(Fault::Syntax);
-            }
-            Ok(tree)
-        }
-        Err(fault) => Err(fault),
-    }
 }
