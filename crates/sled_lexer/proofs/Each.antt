@@ -1,14 +1,13 @@
 -- Each text has lexemes in range, or a fault.
-use Rattle.std.proofs.Common.{◌≡◌, ℕ, zero, suc, ◌+◌, ◌-◌, ◌<◌, ◌≤◌, ◌⊎◌, inl, inr, Bool, true, false, List, [], ◌∷◌, ◌++◌, length, get_or, drop, arith, refl, ap, ◌∙◌, length-drop, Ok, Err, Some}
+use Rattle.std.proofs.Common.{◌≡◌, ℕ, zero, suc, ◌+◌, ◌<◌, ◌≤◌, ◌⊎◌, inl, inr, Bool, true, false, List, [], ◌∷◌, ◌++◌, length, get_or, drop, arith, refl, ap, ◌∙◌, length-drop, Ok, Err}
 use Rattle.std.specs.Prelude.{nat_lt}
 use Rattle.std.proofs.lemmas.Bool.Decides.{nat_tests}
-use Rattle.sled_lexer.specs.declared.Kind.{Kind}
 use Rattle.sled_lexer.specs.declared.Lexeme.{Lexeme}
 use Rattle.sled_lexer.specs.declared.LexFault.{LexFault}
 use Rattle.sled_lexer.specs.declared.LexFault.TheVariants as fault
 use Rattle.sled_lexer.specs.declared.piece.Stop.TheVariants as stop
 use Rattle.sled_lexer.specs.Spelled.{begins_gap}
-use Rattle.sled_lexer.specs.Lexemes.{Front, InRange, Lexemes, IsGap, IsLexFault, IsFaultAt}
+use Rattle.sled_lexer.specs.Lexemes.{Front, InRange, Lexemes, IsGap, IsLexFault}
 use Rattle.sled_lexer.specs.Cut.{Cut, gap_len, cut, Holds}
 use Rattle.sled_lexer.proofs.Gaps.{tail_of, gap_of, gap_from_stops}
 use Rattle.sled_lexer.proofs.Fronts.{front_more, range_more, next_of, bad_byte_at}
@@ -27,9 +26,9 @@ module _ (text : List ℕ) where
   by_cut : (left : ℕ) → Rest left → (ls : List Lexeme) (at start : ℕ) → Front text 0 ls at → InRange text ls → at ≤ start → length text ≤ at + suc left → IsGap text at start → (c : Cut) → Holds (drop start text) c → Either text
   by_cut left rest ls at start front in_range order far gap (Ok (k, n)) holds =
       let next = next_of text at start n k order gap holds in
-      let past : at < start + n = next.2 in
-      let fits : start + n ≤ length text = next.3 in
-      rest (ls ++ record { kind = k; span = record { start = start; end = start + n } } ∷ []) (start + n) (front_more text 0 ls at _ front next.0) (range_more text ls _ in_range next.1) fits (omega arith)
+      let past : at < start + n = next.moves in
+      let fits : start + n ≤ length text = next.within in
+      rest (ls ++ record { kind = k; span = record { start = start; end = start + n } } ∷ []) (start + n) (front_more text 0 ls at _ front next.next) (range_more text ls _ in_range next.in_range) fits (omega arith)
   by_cut left rest ls at start front in_range order far gap (Err (stop.BadByte n)) holds = inr (fault.BadByte (start + n), (ls, at, front, in_range, (start, gap, bad_byte_at text start n holds)))
   by_cut left rest ls at start front in_range order far gap (Err stop.OpenText) holds = inr (fault.OpenText start, (ls, at, front, in_range, (start, gap, (refl, holds))))
   by_cut left rest ls at start front in_range order far gap (Err stop.NumberTooBig) holds = inr (fault.NumberTooBig start, (ls, at, front, in_range, (start, gap, (refl, holds))))

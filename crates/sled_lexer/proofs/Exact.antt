@@ -1,5 +1,5 @@
 -- What those who stand on `lex` may know: a text has one list of lexemes in range or one fault, and its lexemes lie in it.
-use Rattle.std.proofs.Common.{◌≡◌, ℕ, ◌+◌, ◌-◌, ◌≤◌, ◌⊎◌, List, [], ◌∷◌, length, drop, arith, length-drop}
+use Rattle.std.proofs.Common.{◌≡◌, ℕ, ◌-◌, ◌≤◌, ◌⊎◌, List, [], ◌∷◌, length, drop, arith, length-drop}
 use Rattle.sled_lexer.specs.declared.Lexeme.{Lexeme}
 use Rattle.sled_lexer.specs.declared.LexFault.{LexFault}
 use Rattle.sled_lexer.specs.Lexemes.{IsNext, IsGap, Front, Lexemes, InRange, IsLexFault, AllWithin, AllSpelled}
