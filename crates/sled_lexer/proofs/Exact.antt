@@ -1,9 +1,10 @@
--- What the lexemes of a text are, for those who stand on `lex`: at most one of a list in range and a fault, and within the text.
-use Rattle.std.proofs.Common.{◌≡◌, ℕ, ◌+◌, ◌-◌, ◌≤◌, List, [], ◌∷◌, length, drop, arith, length-drop}
+-- What those who stand on `lex` may know: a text has one list of lexemes in range or one fault, and its lexemes lie in it.
+use Rattle.std.proofs.Common.{◌≡◌, ℕ, ◌-◌, ◌≤◌, ◌⊎◌, List, [], ◌∷◌, length, drop, arith, length-drop}
 use Rattle.sled_lexer.specs.declared.Lexeme.{Lexeme}
 use Rattle.sled_lexer.specs.declared.LexFault.{LexFault}
-use Rattle.sled_lexer.specs.Lexemes.{IsNext, IsGap, Front, Lexemes, InRange, IsLexFault, AllWithin}
+use Rattle.sled_lexer.specs.Lexemes.{IsNext, IsGap, Front, Lexemes, InRange, IsLexFault, AllWithin, AllSpelled}
 use Rattle.sled_lexer.proofs.Unique.{same_lists}
+use Rattle.sled_lexer.proofs.Each.{list_or_stop}
 use Rattle.sled_lexer.proofs.Faults.{same_fault, no_list_and_fault}
 
 -- a text has at most one list of lexemes
@@ -17,6 +18,10 @@ one_fault text f g a b = same_fault text 0 a.0 b.0 a.1 b.1 f g a.2 a.3 a.4 b.2 b
 -- and not both, if its Numbers are in range
 pub list_or_fault : (text : List ℕ) (ls : List Lexeme) (f : LexFault) → Lexemes text ls → InRange text ls → IsLexFault text f → ⊥
 list_or_fault text ls f a in_range b = no_list_and_fault text 0 ls b.0 a.0 b.1 f a.1 in_range a.2 b.2 b.4
+
+-- but one of them
+pub each_text : (text : List ℕ) → ((ls : List Lexeme) × Lexemes text ls × InRange text ls) ⊎ ((f : LexFault) × IsLexFault text f)
+each_text = list_or_stop
 
 -- the lexeme that comes next lies in the text
 next_within : (text : List ℕ) (at : ℕ) (l : Lexeme) → IsNext text at l → (l.span.start ≤ l.span.end) × (l.span.end ≤ length text)
@@ -32,3 +37,11 @@ front_within text at (l ∷ ls) end front = (next_within text at l front.0, fron
 -- each lexeme of a text lies in the text
 pub within : (text : List ℕ) (ls : List Lexeme) → Lexemes text ls → AllWithin text ls
 within text ls all = front_within text 0 ls all.0 all.1
+
+front_spelled : (text : List ℕ) (at : ℕ) (ls : List Lexeme) (end : ℕ) → Front text at ls end → AllSpelled text ls
+front_spelled text at [] end front = tt
+front_spelled text at (l ∷ ls) end front = (front.0.piece.spells, front_spelled text l.span.end ls end front.1)
+
+-- and is spelled as its kind
+pub all_spelled : (text : List ℕ) (ls : List Lexeme) → Lexemes text ls → AllSpelled text ls
+all_spelled text ls all = front_spelled text 0 ls all.0 all.1

@@ -1,11 +1,11 @@
 -- The lexemes so far, and what comes next.
-use Rattle.std.proofs.Common.{◌≡◌, ℕ, ◌+◌, ◌-◌, ◌<◌, ◌≤◌, ◌⊎◌, inl, inr, List, [], ◌∷◌, ◌++◌, length, drop, arith, refl, sym, subst, length-drop, Some}
+use Rattle.std.proofs.Common.{◌≡◌, ℕ, ◌+◌, ◌-◌, ◌<◌, ◌≤◌, inl, inr, List, [], ◌∷◌, ◌++◌, length, drop, arith, refl, sym, subst, length-drop}
 use Rattle.sled_lexer.specs.declared.Kind.{Kind}
 use Rattle.sled_lexer.specs.declared.Lexeme.{Lexeme}
 use Rattle.sled_lexer.specs.declared.LexFault.TheVariants as fault
 use Rattle.sled_lexer.specs.declared.piece.Stop.TheVariants as stop
 use Rattle.sled_lexer.specs.Lexemes.{Front, IsNext, IsGap, InRange, IsFaultAt}
-use Rattle.sled_lexer.specs.Cut.{IsPiece, IsStop, Follows}
+use Rattle.sled_lexer.specs.Cut.{IsPiece, IsStop, ComesNext}
 
 pub front_more : (text : List ℕ) (at : ℕ) (ls : List Lexeme) (end : ℕ) (l : Lexeme) → Front text at ls end → IsNext text end l → Front text at (ls ++ l ∷ []) l.span.end
 front_more text at [] end l f n = (let P : ℕ → Type 0 = λ k. IsNext text k l in subst P (sym f) n, refl)
@@ -16,15 +16,17 @@ range_more text [] l f n = n
 range_more text (k ∷ ls) l f n = (f.0, range_more text ls l f.1 n)
 
 pub next_of : (text : List ℕ) (at start len : ℕ) (k : Kind) → at ≤ start → IsGap text at start → IsPiece (drop start text) k len
-    → Follows text at (Some (record { kind = k; span = record { start = start; end = start + len } }))
+    → ComesNext text at (record { kind = k; span = record { start = start; end = start + len } })
 next_of text at start len k order gap piece =
     let e : start + len - start ≡ len = omega arith in
-    let fits : len ≤ length (drop start text) = piece.piece.fits in (
-      record { gap = gap; order = omega arith; piece = rw e piece.piece },
-      (rw e piece.in_range, tt),
-      (let some : 0 < len = piece.some in omega arith),
-      omega (arith, length-drop start text, fits, gap.1),
-    )
+    let fits : len ≤ length (drop start text) = piece.piece.fits in
+    let some : 0 < len = piece.some in
+    record {
+      next = record { gap = gap; order = omega arith; piece = rw e piece.piece };
+      in_range = (rw e piece.in_range, tt);
+      moves = omega arith;
+      within = omega (arith, length-drop start text, fits, gap.1);
+    }
 
 -- a byte that the code refuses is a fault there
 pub bad_byte_at : (text : List ℕ) (at n : ℕ) → IsStop (drop at text) (stop.BadByte n) → IsFaultAt text at (fault.BadByte (at + n))

@@ -1,5 +1,5 @@
 -- The Text at the front, or where it breaks off.
-use Rattle.std.proofs.Common.{◌≡◌, ◌≢◌, ℕ, zero, suc, ◌+◌, ◌<◌, ◌≤◌, ◌⊎◌, inl, inr, Bool, true, false, List, [], ◌∷◌, length, get_or, take, arith, refl, sym, ◌∙◌, subst, add-one, Ok, Err}
+use Rattle.std.proofs.Common.{◌≡◌, ◌≢◌, ℕ, zero, suc, ◌+◌, ◌<◌, ◌≤◌, ◌⊎◌, inl, inr, Bool, true, false, List, [], ◌∷◌, length, get_or, take, arith, refl, sym, ◌∙◌, subst, Err}
 use Rattle.std.specs.Prelude.{◌||◌, ◌==◌, nat_le, slice_index, if◌then◌else◌}
 use Rattle.std.proofs.lemmas.Bool.Decides.{nat_tests}
 use Rattle.sled_lexer.specs.declared.Kind.{Kind}

@@ -1,4 +1,4 @@
-// Numbers: how long one is, and what it stands for.
+// Numbers: how long one is, and which number it writes.
 
 ghost use Rattle.std.specs.Prelude.{◌≡◌, ◌<◌, ◌≤◌, length, true};
 ghost use Rattle.std.specs.Str.Parse.{digits_value};
@@ -10,6 +10,7 @@ use crate::Kind;
 use crate::piece::{Set, Stop, run};
 use sled_base::MAX_NUMBER;
 
+/// Whether a hexadecimal Number stands at the front.
 #[tactic(auto, unfolding(crate::specs::Cut::begins_hex))]
 fn begins_hex(text: &[u8]) -> bool
     ensures value { result ≡ spec.begins_hex text.now }
@@ -18,6 +19,7 @@ fn begins_hex(text: &[u8]) -> bool
     text.len() > 2 && text.starts_with(b"0x") && text[2].is_ascii_hexdigit()
 }
 
+/// How long the longest Number at the front is.
 #[tactic(auto, unfolding(crate::specs::Cut::number_len))]
 fn number_len(text: &[u8]) -> usize
     ensures value { result ≡ spec.number_len text.now }
@@ -30,6 +32,7 @@ fn number_len(text: &[u8]) -> usize
     }
 }
 
+/// The value of a digit, or 36 for a byte that is none.
 fn digit(b: u8) -> u64
     ensures value { result ≡ digit_value b }
     ensures small { result ≤ 36 }
@@ -38,7 +41,7 @@ fn digit(b: u8) -> u64
 }
 
 /// The value of the digits, if it is not above the greatest Number.
-fn value(base: u64, digits: &[u8]) -> Option<u32>
+fn digits_value(base: u64, digits: &[u8]) -> Option<u32>
     requires low { 1 ≤ base }
     requires high { base ≤ 16 }
     ensures { result ≡ meaning.within_limit (digits_value base digits.now) }
@@ -60,8 +63,8 @@ pub fn number_in_range(number: &[u8]) -> Option<u32>
     ensures { result ≡ meaning.within_limit (meaning.number_value number.now) }
 {
     match number.strip_prefix(b"0x") {
-        Some(digits) => value(16, digits),
-        None => value(10, number),
+        Some(digits) => digits_value(16, digits),
+        None => digits_value(10, number),
     }
 }
 
@@ -77,7 +80,9 @@ pub fn cut(text: &[u8]) -> Result<(Kind, usize), Stop>
     }
 }
 
-/// The number that a Number writes, in decimal or behind `0x` in hexadecimal digits. Its caller keeps it to 4,294,967,295.
+/// The number that a Number writes: in hexadecimal digits behind `0x`, and else in decimal digits.
+///
+/// It is at most 4,294,967,295, as it is for each Number that `lex` finds.
 pub fn number_value(spelling: &[u8]) -> u32
     requires { meaning.number_value spelling.now ≤ MAX_NUMBER }
     ensures { result ≡ meaning.number_value spelling.now }

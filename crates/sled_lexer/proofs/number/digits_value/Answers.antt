@@ -1,6 +1,6 @@
 use Rattle.std.proofs.Common.{arith}
 use Rattle.sled_lexer.proofs.Values.{too_big}
-use Rattle.sled_lexer.proofs.number.value.Goals as goal
+use Rattle.sled_lexer.proofs.number.digits_value.Goals as goal
 
 pub returns-then-value-from : goal.returns-then-value-from
 returns-then-value-from c =

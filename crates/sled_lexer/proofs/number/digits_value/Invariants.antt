@@ -1,7 +1,7 @@
 use Rattle.std.proofs.Common.{◌≡◌, ◌≤◌, drop}
 use Rattle.std.specs.Str.Parse.{digits_value, digits_value_after}
 use Rattle.sled_base.specs.declared.limits.TheConstants.{MAX_NUMBER}
-use Rattle.sled_lexer.proofs.number.value.Given as goal
+use Rattle.sled_lexer.proofs.number.digits_value.Given as goal
 
 abbrev pub invariant-loop-d : goal.invariant-loop-d
 invariant-loop-d l = record {
