@@ -1,7 +1,7 @@
 -- The results of a conjunction of terms of one class.
 use Rattle.std.proofs.Common.{◌≡◌, ◌≢◌, ℕ, suc, ◌+◌, ◌<◌, ◌≤◌, max, Bool, true, false, cond, ◌&&◌, List, [], ◌∷◌, ◌++◌, length, map, filter, take, drop, get_or, All, slice_get, Option, Some, None, refl, sym, ap, ◌∙◌, subst, eqb, eq-eqb, option_and_then, arith, length-append}
 use Rattle.std.proofs.lemmas.List.{append_assoc, append-nil}
-use Rattle.std.proofs.lemmas.List.Elements.{All-head, All-tail}
+use Rattle.std.proofs.lemmas.List.Elements.{All-nil, All-cons, All-same, All-head, All-tail}
 use Rattle.std.proofs.lemmas.Option.{get_or_from_slice_get, slice_get_within}
 use Rattle.std.specs.List.{flat_map, fold, list_all}
 use Rattle.std.specs.Option.{option_map, option_map_or, IsSomeAnd}
@@ -13,12 +13,28 @@ use Rattle.sled_model.specs.declared.tokens.Tokens.{Tokens}
 use Rattle.sled_model.specs.declared.raw.Match.{Match}
 use Rattle.sled_model.specs.declared.raw.RawEntry.{RawEntry}
 use Rattle.sled_model.specs.declared.raw.RawEntry.TheVariants.{Value}
-use Rattle.sled_model.specs.declared.pattern.Pattern.{Pattern}
-use Rattle.sled_model.specs.declared.pattern.Pattern.TheVariants.{Limit, Bind, Both'}
+use Rattle.sled_model.specs.declared.pattern.Pattern.{Pattern, items_hidden-the_row-Pattern-1}
+use Rattle.sled_model.specs.declared.pattern.Pattern.TheVariants.{Limit, Bind, Both, Both'}
 use Rattle.sled_model.specs.Tokens.{byte_count, bits_of, token, class_of, token_len, value_at, IsFieldOf, AreTokens}
 use Rattle.sled_model.specs.Results.{Context, Meaning, results, fold_meanings, both, both_match, agrees, one_match, has_relation, results_from, limit_results, bind_results}
 use Rattle.sled_model.specs.Simple.{IsOfClass, IsTerm, IsSimple, terms_of, term_fields, bare_fields, term_class, class_of_terms, field_in, term_holds, term_values, value_entries, class_len, SaysMatch, MatchesSimply}
 use Rattle.sled_model.proofs.Equations.{row_meanings-row}
+
+pub terms_of-Both : (ps : List Pattern) → terms_of (Both ps) ≡ ps
+terms_of-Both ps = items_hidden-the_row-Pattern-1 ps
+
+-- a conjunction of terms is simple
+pub IsSimple-Both : (tokens : Tokens) (class : ClassId) (ps : List Pattern) → ps ≢ [] → All (IsTerm tokens class) ps → IsSimple tokens class (Both ps)
+IsSimple-Both tokens class ps some h = record {
+  some = λ e. some (sym (terms_of-Both ps) ∙ e);
+  terms = All-same (IsTerm tokens class) (terms_of (Both ps)) ps (terms_of-Both ps) h;
+}
+
+-- and so is a term alone
+pub IsSimple-term : (tokens : Tokens) (class : ClassId) (t : Pattern) → IsTerm tokens class t → IsSimple tokens class t
+IsSimple-term tokens class (Limit f relation limit) h = record { some = λ e. cc; terms = All-cons (IsTerm tokens class) (Limit f relation limit) [] h (All-nil (IsTerm tokens class)) }
+IsSimple-term tokens class (Bind f) h = record { some = λ e. cc; terms = All-cons (IsTerm tokens class) (Bind f) [] h (All-nil (IsTerm tokens class)) }
+IsSimple-term tokens class _ h = absurd h
 
 -- any pattern is the conjunction of its terms
 pub results-terms : (cx : Context) (p : Pattern) (bytes : List ℕ) (i : ℕ) → results cx p bytes i ≡ fold_meanings both (map (results cx) (terms_of p)) bytes i

@@ -11,6 +11,8 @@ mod raw;
 mod simple;
 mod spec;
 mod statement;
+#[cfg(test)]
+mod tests;
 mod tokens;
 
 pub use constructor::{
