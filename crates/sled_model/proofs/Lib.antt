@@ -5,4 +5,5 @@ pub mod Equations
 pub mod Known
 pub mod Within
 pub mod SimpleLemmas
+pub mod FirstLemmas
 pub mod Worked
