@@ -6,4 +6,5 @@ pub mod Known
 pub mod Within
 pub mod SimpleLemmas
 pub mod FirstLemmas
+pub mod Front
 pub mod Worked

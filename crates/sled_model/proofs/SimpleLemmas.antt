@@ -191,11 +191,17 @@ module _ (tokens : Tokens) (class : ClassId) (cl : Class) (known : slice_get tok
         values_of_terms tokens n (terms_of p),
       )
 
+      -- the results follow from the token
+      pub results_by_token : (p : Pattern) → IsSimple tokens class p → (o : Option ℕ) → token cl bytes 0 ≡ o
+          → results cx p bytes 0 ≡ results_from o (λ n. cond (list_all (term_holds tokens n) (terms_of p)) (one_match (flat_map (term_entries tokens n) (terms_of p)) (byte_count cl)) [])
+      results_by_token p h None e = results-terms cx p bytes 0 ∙ lacking e (terms_of p) h.terms
+      results_by_token p h (Some n) e = results-terms cx p bytes 0 ∙ conjunction n e (terms_of p) h.some h.terms
+
 has_some : {A : Type 0} (P : A → Type 0) (o : Option A) → IsSomeAnd o P → (x : A) × ((o ≡ Some x) × P x)
 has_some P None h = absurd h
 has_some P (Some x) h = (x, (refl, h))
 
-All-slice_get : {A : Type 0} (P : A → Type 0) (xs : List A) (k : ℕ) (x : A) → slice_get xs k ≡ Some x → All P xs → P x
+pub All-slice_get : {A : Type 0} (P : A → Type 0) (xs : List A) (k : ℕ) (x : A) → slice_get xs k ≡ Some x → All P xs → P x
 All-slice_get P xs k x e h = subst P (get_or_from_slice_get xs k x x e) (h k x (slice_get_within xs k x e))
 
 -- the class of a known field is known
