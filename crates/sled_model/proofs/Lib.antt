@@ -7,4 +7,5 @@ pub mod Within
 pub mod SimpleLemmas
 pub mod FirstLemmas
 pub mod Front
+pub mod NameValues
 pub mod Worked

@@ -1,5 +1,5 @@
 -- Patterns of one token: a conjunction of relations and bare fields, all of one class.
-use Rattle.std.specs.Prelude.{ℕ, ◌≡◌, ◌≢◌, Bool, true, false, List, [], ◌∷◌, length, slice_get, All, Option, Some, None}
+use Rattle.std.specs.Prelude.{ℕ, ◌≡◌, ◌≢◌, Bool, true, false, List, [], ◌∷◌, length, map, slice_get, All, AllPairs, Option, Some, None}
 use Rattle.std.specs.List.{flat_map}
 use Rattle.std.specs.Option.{option_map_or, IsSomeAnd}
 use Rattle.sled_model.specs.declared.tokens.Class.{Class}
@@ -92,6 +92,11 @@ SaysMatch cx class pattern bytes false values = results cx pattern bytes 0 ≡ [
 -- the same among any constructors, since none stands in the pattern
 abbrev pub MatchesSimply : Tokens → ClassId → Pattern → List ℕ → Bool → List ℕ → Type 0
 MatchesSimply tokens class pattern bytes found values = (cx : Context) → cx.tokens ≡ tokens → SaysMatch cx class pattern bytes found values
+
+-- each field's name stands at the field's place, and none stands there twice
+pub record AreNamesOf (spec : Spec) (fs : List FieldId) (names : List (List ℕ)) : Type 0 where
+  pub spelled : map Some names ≡ map (λ f. slice_get spec.field_names f.0) fs
+  pub distinct : AllPairs (λ one other. one ≢ other) names
 
 -- the arm's pattern is one of one token
 abbrev pub IsSimpleArm : Spec → Arm → Type 0
