@@ -5,4 +5,7 @@ pub mod Equations
 pub mod Known
 pub mod Within
 pub mod SimpleLemmas
+pub mod FirstLemmas
+pub mod Front
+pub mod NameValues
 pub mod Worked

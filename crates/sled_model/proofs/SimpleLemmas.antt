@@ -1,7 +1,7 @@
 -- The results of a conjunction of terms of one class.
 use Rattle.std.proofs.Common.{◌≡◌, ◌≢◌, ℕ, suc, ◌+◌, ◌<◌, ◌≤◌, max, Bool, true, false, cond, ◌&&◌, List, [], ◌∷◌, ◌++◌, length, map, filter, take, drop, get_or, All, slice_get, Option, Some, None, IsSome, refl, sym, ap, ◌∙◌, subst, eqb, eq-eqb, option_and_then, arith, length-append}
 use Rattle.std.proofs.lemmas.List.{append_assoc, append-nil}
-use Rattle.std.proofs.lemmas.List.Elements.{All-head, All-tail}
+use Rattle.std.proofs.lemmas.List.Elements.{All-nil, All-cons, All-same, All-head, All-tail}
 use Rattle.std.proofs.lemmas.Option.{get_or_from_slice_get, slice_get_within}
 use Rattle.std.specs.List.{flat_map, fold, list_all}
 use Rattle.std.specs.Option.{option_map, option_map_or, IsSomeAnd}
@@ -13,12 +13,28 @@ use Rattle.sled_model.specs.declared.tokens.Tokens.{Tokens}
 use Rattle.sled_model.specs.declared.raw.Match.{Match}
 use Rattle.sled_model.specs.declared.raw.RawEntry.{RawEntry}
 use Rattle.sled_model.specs.declared.raw.RawEntry.TheVariants.{Value}
-use Rattle.sled_model.specs.declared.pattern.Pattern.{Pattern}
-use Rattle.sled_model.specs.declared.pattern.Pattern.TheVariants.{Token, Limit, Bind, Both'}
+use Rattle.sled_model.specs.declared.pattern.Pattern.{Pattern, items_hidden-the_row-Pattern-1}
+use Rattle.sled_model.specs.declared.pattern.Pattern.TheVariants.{Token, Limit, Bind, Both, Both'}
 use Rattle.sled_model.specs.Tokens.{byte_count, bits_of, token, class_of, token_len, value_at, IsFieldOf, AreTokens}
 use Rattle.sled_model.specs.Results.{Context, Meaning, results, fold_meanings, both, both_match, agrees, one_match, has_relation, results_from, class_results, limit_results, bind_results}
 use Rattle.sled_model.specs.Simple.{IsOfClass, IsTerm, IsSimple, terms_of, term_fields, bare_fields, term_class, class_of_terms, field_in, term_holds, term_values, value_entries, class_len, SaysMatch, MatchesSimply}
 use Rattle.sled_model.proofs.Equations.{row_meanings-row}
+
+pub terms_of-Both : (ps : List Pattern) → terms_of (Both ps) ≡ ps
+terms_of-Both ps = items_hidden-the_row-Pattern-1 ps
+
+-- a conjunction of terms is simple
+pub IsSimple-Both : (tokens : Tokens) (class : ClassId) (ps : List Pattern) → ps ≢ [] → All (IsTerm tokens class) ps → IsSimple tokens class (Both ps)
+IsSimple-Both tokens class ps some h = record {
+  some = λ e. some (sym (terms_of-Both ps) ∙ e);
+  terms = All-same (IsTerm tokens class) (terms_of (Both ps)) ps (terms_of-Both ps) h;
+}
+
+-- and so is a term alone
+pub IsSimple-term : (tokens : Tokens) (class : ClassId) (t : Pattern) → IsTerm tokens class t → IsSimple tokens class t
+IsSimple-term tokens class (Limit f relation limit) h = record { some = λ e. cc; terms = All-cons (IsTerm tokens class) (Limit f relation limit) [] h (All-nil (IsTerm tokens class)) }
+IsSimple-term tokens class (Bind f) h = record { some = λ e. cc; terms = All-cons (IsTerm tokens class) (Bind f) [] h (All-nil (IsTerm tokens class)) }
+IsSimple-term tokens class _ h = absurd h
 
 -- any pattern is the conjunction of its terms
 pub results-terms : (cx : Context) (p : Pattern) (bytes : List ℕ) (i : ℕ) → results cx p bytes i ≡ fold_meanings both (map (results cx) (terms_of p)) bytes i
@@ -184,11 +200,17 @@ module _ (tokens : Tokens) (class : ClassId) (cl : Class) (known : slice_get tok
         values_of_terms tokens n (terms_of p),
       )
 
+      -- the results follow from the token
+      pub results_by_token : (p : Pattern) → IsSimple tokens class p → (o : Option ℕ) → token cl bytes 0 ≡ o
+          → results cx p bytes 0 ≡ results_from o (λ n. cond (list_all (term_holds tokens n) (terms_of p)) (one_match (flat_map (term_entries tokens n) (terms_of p)) (byte_count cl)) [])
+      results_by_token p h None e = results-terms cx p bytes 0 ∙ lacking e (terms_of p) h.terms
+      results_by_token p h (Some n) e = results-terms cx p bytes 0 ∙ conjunction n e (terms_of p) h.some h.terms
+
 has_some : {A : Type 0} (P : A → Type 0) (o : Option A) → IsSomeAnd o P → (x : A) × ((o ≡ Some x) × P x)
 has_some P None h = absurd h
 has_some P (Some x) h = (x, (refl, h))
 
-All-slice_get : {A : Type 0} (P : A → Type 0) (xs : List A) (k : ℕ) (x : A) → slice_get xs k ≡ Some x → All P xs → P x
+pub All-slice_get : {A : Type 0} (P : A → Type 0) (xs : List A) (k : ℕ) (x : A) → slice_get xs k ≡ Some x → All P xs → P x
 All-slice_get P xs k x e h = subst P (get_or_from_slice_get xs k x x e) (h k x (slice_get_within xs k x e))
 
 -- the class of a known field is known

@@ -1,5 +1,5 @@
 -- Patterns of one token: a conjunction of a class, relations on its fields and bare fields of it.
-use Rattle.std.specs.Prelude.{ℕ, ◌≡◌, ◌≢◌, Bool, true, false, List, [], ◌∷◌, length, slice_get, All, Option, None, IsSome}
+use Rattle.std.specs.Prelude.{ℕ, ◌≡◌, ◌≢◌, Bool, true, false, List, [], ◌∷◌, length, map, slice_get, All, AllPairs, Option, Some, None, IsSome}
 use Rattle.std.specs.List.{flat_map}
 use Rattle.std.specs.Option.{option_map_or, IsSomeAnd}
 use Rattle.sled_model.specs.declared.tokens.Class.{Class}
@@ -11,6 +11,11 @@ use Rattle.sled_model.specs.declared.raw.RawEntry.{RawEntry}
 use Rattle.sled_model.specs.declared.raw.RawEntry.TheVariants.{Value}
 use Rattle.sled_model.specs.declared.pattern.Pattern.{Pattern, items-the_row-Pattern}
 use Rattle.sled_model.specs.declared.pattern.Pattern.TheVariants.{Token, Limit, Bind, Both'}
+use Rattle.sled_model.specs.declared.raw.Match.{Match}
+use Rattle.sled_model.specs.declared.spec.Spec.{Spec}
+use Rattle.sled_model.specs.declared.statement.Arm.{Arm}
+use Rattle.sled_model.specs.declared.statement.Statement.{Statement}
+use Rattle.sled_model.specs.First.{first}
 use Rattle.sled_model.specs.Tokens.{byte_count, bits_of, class_of}
 use Rattle.sled_model.specs.Results.{Context, results, one_match, has_relation}
 
@@ -89,3 +94,23 @@ SaysMatch cx class pattern bytes false values = results cx pattern bytes 0 ≡ [
 -- the same among any constructors, since none stands in the pattern
 abbrev pub MatchesSimply : Tokens → ClassId → Pattern → List ℕ → Bool → List ℕ → Type 0
 MatchesSimply tokens class pattern bytes found values = (cx : Context) → cx.tokens ≡ tokens → SaysMatch cx class pattern bytes found values
+
+-- each field's name stands at the field's place, and none stands there twice
+pub record AreNamesOf (spec : Spec) (fs : List FieldId) (names : List (List ℕ)) : Type 0 where
+  pub spelled : map Some names ≡ map (λ f. slice_get spec.field_names f.0) fs
+  pub distinct : AllPairs (λ one other. one ≢ other) names
+
+-- the arm's pattern is one of one token
+abbrev pub IsSimpleArm : Spec → Arm → Type 0
+IsSimpleArm spec arm = (class : ClassId) × IsSimple spec.tokens class arm.pattern
+
+-- the result of a simple pattern of a class that read these values
+abbrev pub simple_match : Tokens → ClassId → Pattern → List ℕ → Match
+simple_match tokens class pattern values = record { binds = value_entries (bare_fields pattern) values; len = class_len tokens class; loose = false }
+
+-- the number of the first arm that has a result on the bytes, and the values of its bare fields, in order
+abbrev pub FindsSimply : Spec → Statement → List ℕ → Option ℕ → List ℕ → Type 0
+FindsSimply spec statement bytes None values = first spec statement bytes ≡ None
+FindsSimply spec statement bytes (Some k) values = IsSomeAnd (slice_get statement.arms k) (λ arm.
+    (class : ClassId) → IsSimple spec.tokens class arm.pattern
+    → (first spec statement bytes ≡ Some (k, simple_match spec.tokens class arm.pattern values)) × (length values ≡ length (bare_fields arm.pattern)))

@@ -4,6 +4,7 @@
 
 mod constructor;
 mod copies;
+mod first_arm;
 mod instance;
 mod pattern;
 mod plain;
@@ -11,12 +12,15 @@ mod raw;
 mod simple;
 mod spec;
 mod statement;
+#[cfg(test)]
+mod tests;
 mod tokens;
 
 pub use constructor::{
     Atom, Constructor, ConstructorId, ConstructorList, Equation, EquationList, KindList, Name,
     NameList, OperandKind, Term, TermList, TypeId,
 };
+pub use first_arm::{first, first_simple};
 pub use instance::{Instance, LabelId, Operand, OperandList};
 pub use pattern::{Argument, ArgumentList, Pattern, PatternList, Relation};
 pub use plain::results;

@@ -2,7 +2,7 @@
 ghost use Rattle.std.specs.Prelude.{◌≡◌, ◌+◌, ◌^◌, ◌<◌, ◌≤◌, ◌≢◌, ◌++◌, length, map, filter, All, IfOk, OnOk, IfSome, OnSome};
 ghost use Rattle.std.specs.List.{flat_map, fold};
 ghost use Rattle.sled_model.specs.Tokens.{AreTokens};
-ghost use Rattle.sled_model.specs.Results.{alone, results as results_of, fold_meanings, chain, both, either, chain_match, agrees as agrees_with, both_match, one_match, class_results as class_results_of, limit_results as limit_results_of, bind_results as bind_results_of, label_match, loose_match};
+ghost use Rattle.sled_model.specs.Results.{alone, results as results_of, fold_meanings, chain, both, either, chain_match, agrees as agrees_with, both_match, one_match as one_match_of, class_results as class_results_of, limit_results as limit_results_of, bind_results as bind_results_of, label_match, loose_match};
 
 use crate::copies::copy_entries;
 use crate::tokens::token_at;
@@ -22,8 +22,8 @@ fn agrees(a: &Match, b: &Match) -> bool
     }
 }
 
-fn one(alloc: Global, binds: Items<RawEntry>, len: usize) -> Result<Items<Match>, NoMemory>
-    ensures { IfOk result (λ found. found ≡ one_match binds len) }
+fn one_match(alloc: Global, binds: Items<RawEntry>, len: usize) -> Result<Items<Match>, NoMemory>
+    ensures { IfOk result (λ found. found ≡ one_match_of binds len) }
 {
     let mut found = Items::new(alloc);
     found.push(Match {
@@ -50,7 +50,7 @@ fn class_results(
     };
     match token_at(class, window, at) {
         None => Ok(Items::new(alloc)),
-        Some(_) => one(alloc, Items::new(alloc), class.byte_count()),
+        Some(_) => one_match(alloc, Items::new(alloc), class.byte_count()),
     }
 }
 
@@ -69,7 +69,7 @@ fn limit_results(
 {
     match tokens.field_value(field, window, at) {
         Some(value) if relation.holds(value, limit) => {
-            one(alloc, Items::new(alloc), tokens.token_len(field))
+            one_match(alloc, Items::new(alloc), tokens.token_len(field))
         }
         _ => Ok(Items::new(alloc)),
     }
@@ -96,7 +96,7 @@ fn bind_results(
         value,
         at: at as u8,
     })?;
-    one(alloc, binds, tokens.token_len(field))
+    one_match(alloc, binds, tokens.token_len(field))
 }
 
 /// A copy of the bindings of both, in order.
@@ -144,7 +144,7 @@ fn loosened(alloc: Global, inner: &[Match]) -> Result<Items<Match>, NoMemory>
 }
 
 /// Appends a, joined with each of the seconds.
-fn push_joined(
+fn push_chained(
     alloc: Global,
     found: &mut Items<Match>,
     a: &Match,
@@ -164,7 +164,7 @@ fn push_joined(
 }
 
 /// Appends a, met with each of the seconds that agrees.
-fn push_met(
+fn push_both(
     alloc: Global,
     found: &mut Items<Match>,
     a: &Match,
@@ -185,19 +185,19 @@ fn push_met(
 }
 
 /// Each of the firsts, met with each result of the part that agrees with it.
-fn all_met(alloc: Global, firsts: &[Match], seconds: &[Match]) -> Result<Items<Match>, NoMemory>
+fn all_both(alloc: Global, firsts: &[Match], seconds: &[Match]) -> Result<Items<Match>, NoMemory>
     ensures { IfOk result (λ found. found ≡ flat_map (λ a. map (both_match a) (filter (agrees_with a) seconds.now)) firsts.now) }
 {
     let mut found = Items::new(alloc);
     for a in firsts {
-        push_met(alloc, &mut found, a, seconds)?;
+        push_both(alloc, &mut found, a, seconds)?;
     }
     Ok(found)
 }
 
 /// Each of the firsts, joined with each result of the part just after it.
 #[cycle(results)]
-fn all_joined(
+fn all_chained(
     alloc: Global,
     tokens: &Tokens,
     firsts: &[Match],
@@ -214,7 +214,7 @@ fn all_joined(
     let mut found = Items::new(alloc);
     for a in firsts {
         let seconds = results(alloc, tokens, part, window, at + a.len)?;
-        push_joined(alloc, &mut found, a, seconds.as_slice())?;
+        push_chained(alloc, &mut found, a, seconds.as_slice())?;
     }
     Ok(found)
 }
@@ -238,7 +238,7 @@ fn chain_results(
     };
     let mut found = results(alloc, tokens, first, window, at)?;
     for part in rest {
-        found = all_joined(alloc, tokens, found.as_slice(), part, window, at)?;
+        found = all_chained(alloc, tokens, found.as_slice(), part, window, at)?;
     }
     Ok(found)
 }
@@ -263,7 +263,7 @@ fn both_results(
     let mut found = results(alloc, tokens, first, window, at)?;
     for part in rest {
         let seconds = results(alloc, tokens, part, window, at)?;
-        found = all_met(alloc, found.as_slice(), seconds.as_slice())?;
+        found = all_both(alloc, found.as_slice(), seconds.as_slice())?;
     }
     Ok(found)
 }
@@ -330,6 +330,6 @@ pub fn results(
             loosened(alloc, found.as_slice())
         }
         Pattern::Apply { .. } => Ok(Items::new(alloc)),
-        Pattern::Empty => one(alloc, Items::new(alloc), 0),
+        Pattern::Empty => one_match(alloc, Items::new(alloc), 0),
     }
 }

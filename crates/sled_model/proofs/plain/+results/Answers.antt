@@ -30,11 +30,11 @@ results-returns-in_ok-found-in-Loose-clause-within t c =
     let h : Within n a.at c.as_slice-in-Loose.result.now = rw c.as_slice-in-Loose.ensures c.in_ok-found-in-Loose.ensures.within in
     IfOk-weaker c.loosened.result _ (Within n a.at) (λ found is. rw is (Within-loose n a.at c.as_slice-in-Loose.result.now h)) c.loosened.ensures
 
-pub all_joined-loop-a-preserved : goal.all_joined-loop-a-preserved
-all_joined-loop-a-preserved t c =
+pub all_chained-loop-a-preserved : goal.all_chained-loop-a-preserved
+all_chained-loop-a-preserved t c =
     let a = c.args in let n = length a.window.now in
     let f = λ (b : Match). map (chain_match b) (results_of (alone a.tokens.now) a.part.now a.window.now (a.at + b.len)) in
-    let told : c.push_joined.new.found ≡ c.loop-a.found ++ map (chain_match c.a-item.result) c.as_slice.result.now = c.in_ok-push_joined.ensures in
+    let told : c.push_chained.new.found ≡ c.loop-a.found ++ map (chain_match c.a-item.result) c.as_slice.result.now = c.in_ok-push_chained.ensures in
     record {
       value = told ∙ ap (λ z. z ++ map (chain_match c.a-item.result) c.as_slice.result.now) c.loop-a.invariant.value
           ∙ ap (λ z. flat_map f (take c.loop-a.a-index a.firsts.now) ++ map (chain_match c.a-item.result) z) (c.as_slice.ensures ∙ c.in_ok-seconds.ensures.value)

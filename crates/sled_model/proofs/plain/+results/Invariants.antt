@@ -5,8 +5,8 @@ use Rattle.sled_model.specs.Results.{alone, results, chain, both, either, chain_
 use Rattle.sled_model.proofs.Within.{Within}
 use Rattle.sled_model.proofs.plain.+results.Given as goal
 
-abbrev pub invariant-all_joined-loop-a : goal.invariant-all_joined-loop-a
-invariant-all_joined-loop-a l = record {
+abbrev pub invariant-all_chained-loop-a : goal.invariant-all_chained-loop-a
+invariant-all_chained-loop-a l = record {
   value : l.found ≡ flat_map (λ a. map (chain_match a) (results (alone l.tokens) l.part l.window (l.at + a.len))) (take l.a-index l.firsts);
   within : Within (length l.window) l.at l.found;
 }
