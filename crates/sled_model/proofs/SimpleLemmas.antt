@@ -32,6 +32,7 @@ IsSimple-Both tokens class ps some h = record {
 
 -- and so is a term alone
 pub IsSimple-term : (tokens : Tokens) (class : ClassId) (t : Pattern) → IsTerm tokens class t → IsSimple tokens class t
+IsSimple-term tokens class (Token c) h = record { some = λ e. cc; terms = All-cons (IsTerm tokens class) (Token c) [] h (All-nil (IsTerm tokens class)) }
 IsSimple-term tokens class (Limit f relation limit) h = record { some = λ e. cc; terms = All-cons (IsTerm tokens class) (Limit f relation limit) [] h (All-nil (IsTerm tokens class)) }
 IsSimple-term tokens class (Bind f) h = record { some = λ e. cc; terms = All-cons (IsTerm tokens class) (Bind f) [] h (All-nil (IsTerm tokens class)) }
 IsSimple-term tokens class _ h = absurd h
