@@ -6,6 +6,7 @@ mod fault_names;
 mod faults;
 mod limits;
 mod outside;
+mod reads;
 mod shelf;
 mod sink;
 mod source;
@@ -20,6 +21,7 @@ pub use limits::{
     MAX_TESTED_BITS, MAX_TEXT, MAX_WEIGHT,
 };
 pub use outside::{Shelf, Sink, Source};
+pub use reads::{ReadFault, read_up_to};
 pub use shelf::MemShelf;
 pub use sink::MemSink;
 pub use source::MemSource;
