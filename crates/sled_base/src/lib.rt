@@ -11,6 +11,8 @@ mod shelf;
 mod sink;
 mod source;
 mod span;
+#[cfg(test)]
+mod tests;
 mod texts;
 
 pub use fault_names::FaultNames;
