@@ -116,7 +116,7 @@ distinct_pairs (n ∷ ns) h =
 
 -- ---- places of names
 
-slice_get-at : {A : Type 0} (xs : List A) (k : ℕ) (d : A) → k < length xs → slice_get xs k ≡ Some (get_or xs k d)
+pub slice_get-at : {A : Type 0} (xs : List A) (k : ℕ) (d : A) → k < length xs → slice_get xs k ≡ Some (get_or xs k d)
 slice_get-at [] k d h = absurd (omega arith)
 slice_get-at (x ∷ xs) zero d h = refl
 slice_get-at (x ∷ xs) (suc k) d h = slice_get-at xs k d (omega arith)

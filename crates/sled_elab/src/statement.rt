@@ -209,7 +209,8 @@ fn bound_table<'a>(
 // Adds the name, if there is one, and answers whether it was not there yet.
 fn add_bound<'a>(table: &mut NameTable<'a>, name: Option<&'a Name>) -> Result<bool, NoMemory>
     ensures { IfOk result (λ new. MatchBool new
-        (table_names table.new ≡ table_names table.old ++ option_to_list (option_map (λ x. x.now) name.entry))
+        ((list_any (is_among (table_names table.old)) (option_to_list (option_map (λ x. x.now) name.entry)) ≡ false)
+        × (table_names table.new ≡ table_names table.old ++ option_to_list (option_map (λ x. x.now) name.entry)))
         (list_any (is_among (table_names table.old)) (option_to_list (option_map (λ x. x.now) name.entry)) ≡ true)) }
 {
     match name {
