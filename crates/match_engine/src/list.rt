@@ -1,4 +1,16 @@
 // The listing of a source into a sink.
+ghost use Rattle.std.specs.Prelude.{◌≤◌};
+ghost use Rattle.sled_model.specs.OneToken.{IsOneTokenStatement};
+ghost use Rattle.match_engine.specs.Listed.{IsListed};
+
+use crate::Stop;
+use crate::listing::lines_of;
+use sled_base::{ReadFault, Sink, Source, read_up_to, write_all};
+use sled_model::{Spec, Statement};
+use std::alloc::Global;
+
+/// No listing looks behind so many bytes: they are more than there are addresses.
+const MOST: usize = 4_294_967_360;
 
 /// A whole listing: how many lines it has, and the address behind the last.
 #[derive(Clone, Copy, Debug, PartialEq, Eq)]
@@ -19,4 +31,41 @@ pub enum ListFault {
     /// The sink cannot be written.
     WriteFault,
     NoMemory,
+}
+
+/// Lists all bytes of the source, the first of which stands at address `base`, by the arms of the statement in turn. The lines before a
+/// refused place are written. After a failed read, and where there is no memory, nothing is written. `ReadFault` and `WriteFault` come
+/// only where the count of the source or the sink rose.
+pub fn list<I: Source, O: Sink>(
+    alloc: Global,
+    spec: &Spec,
+    statement: &Statement,
+    base: u32,
+    source: &mut I,
+    sink: &mut O,
+) -> Result<Listed, ListFault>
+    requires { IsOneTokenStatement spec.now statement.now }
+    ensures listed { IsListed spec.now statement.now base (I.left source.old) (I.left source.new) (I.faults source.old) (I.faults source.new)
+        (O.contents sink.old) (O.contents sink.new) (O.faults sink.old) (O.faults sink.new) result }
+    ensures later { I.faults source.old ≤ I.faults source.new }
+{
+    let bytes = match read_up_to(alloc, source, MOST) {
+        Ok(bytes) => bytes,
+        Err(ReadFault::Unread) => return Err(ListFault::ReadFault),
+        Err(ReadFault::NoMemory) => return Err(ListFault::NoMemory),
+    };
+    let Ok((lines, stop)) = lines_of(alloc, spec, statement, base, &bytes) else {
+        return Err(ListFault::NoMemory);
+    };
+    let Ok(()) = write_all(sink, &lines.text) else {
+        return Err(ListFault::WriteFault);
+    };
+    match stop {
+        None => Ok(Listed {
+            places: lines.places,
+            end: lines.end,
+        }),
+        Some(Stop::NoMatch(address)) => Err(ListFault::NoMatch(address)),
+        Some(Stop::AddressEnd(address)) => Err(ListFault::AddressEnd(address)),
+    }
 }
