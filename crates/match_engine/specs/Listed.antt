@@ -8,9 +8,9 @@ use Rattle.sled_model.specs.declared.spec.Spec.{Spec}
 use Rattle.sled_model.specs.declared.statement.Statement.{Statement}
 use Rattle.match_engine.specs.declared.listing.Stop.{Stop}
 use Rattle.match_engine.specs.declared.listing.Stop.TheVariants as stop
-use Rattle.match_engine.specs.declared.list.Listed.{Listed}
-use Rattle.match_engine.specs.declared.list.ListFault.{ListFault}
-use Rattle.match_engine.specs.declared.list.ListFault.TheVariants.{NoMatch, AddressEnd, ReadFault, WriteFault, NoMemory}
+use Rattle.match_engine.specs.declared.image.Listed.{Listed}
+use Rattle.match_engine.specs.declared.image.ListFault.{ListFault}
+use Rattle.match_engine.specs.declared.image.ListFault.TheVariants.{NoMatch, AddressEnd, ReadFault, WriteFault, NoMemory}
 use Rattle.match_engine.specs.Listing.{Listing, listing}
 
 -- all lines are written, and the listing ended so

@@ -55,9 +55,13 @@ Taking = ℕ → List ℕ → Option (ℕ × List ℕ)
 abbrev pub skip_taken : List ℕ → ℕ → ℕ × List ℕ
 skip_taken bytes n = (min n (length bytes), codes ".skip " ++ decimal (min n (length bytes)))
 
+-- a result of an arm
+abbrev pub arm_taken : Spec → ℕ → Match → Arm → ℕ × List ℕ
+arm_taken spec location m arm = (m.len, action_text spec arm location m.binds)
+
 -- the first arm's first result, or else the skip, where there is one
 abbrev pub taken_by : Spec → Statement → ℕ → List ℕ → Option (ℕ × Match) → Option (ℕ × List ℕ)
-taken_by spec statement location bytes (Some (k, m)) = option_map (λ arm. (m.len, action_text spec arm location m.binds)) (slice_get statement.arms k)
+taken_by spec statement location bytes (Some (k, m)) = option_map (arm_taken spec location m) (slice_get statement.arms k)
 taken_by spec statement location bytes None = option_map (skip_taken bytes) statement.skip
 
 abbrev pub taken : Spec → Statement → Taking

@@ -1,11 +1,11 @@
 //! The listing of an image by a statement: a line for each place, with its address, its bytes and the text of the arm that matches.
 #![tactic(auto)]
 
+mod image;
 mod line;
-mod list;
 mod listing;
 #[cfg(test)]
 mod tests;
 
-pub use list::{ListFault, Listed, list};
+pub use image::{ListFault, Listed, list};
 pub use listing::Stop;

@@ -29,6 +29,7 @@ pub(crate) fn push_line(
     Ok(())
 }
 
+#[tactic(auto, using(crate::proofs::Addresses::eight_digits))]
 fn push_address(text: &mut Vec<u8>, number: &mut String, address: u64) -> Result<(), AllocError>
     ensures { OnOk result (text.new.items ≡ text.old.items ++ address_text address) }
 {

@@ -1,4 +1,4 @@
-// The listing of a source into a sink.
+// The listing of an image, from a source into a sink.
 ghost use Rattle.std.specs.Prelude.{◌≤◌};
 ghost use Rattle.sled_model.specs.OneToken.{IsOneTokenStatement};
 ghost use Rattle.match_engine.specs.Listed.{IsListed};
