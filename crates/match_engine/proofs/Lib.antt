@@ -1,4 +1,5 @@
 pub mod Addresses
 pub mod Places
 pub mod Taken
+pub mod Steps
 pub mod Worked
