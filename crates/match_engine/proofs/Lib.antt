@@ -2,4 +2,5 @@ pub mod Addresses
 pub mod Places
 pub mod Taken
 pub mod Steps
+pub mod Images
 pub mod Worked

@@ -45,7 +45,7 @@ module _ (taking : Taking) (local : IsLocal taking) where
       ap (λ l. cond (leb (2 ^ 32) place) (ended place (Some (AddressEnd place))) l)
       (place-same place (b ∷ bs) (b ∷ bs) (taking place (b ∷ bs)) (places_from k taking) (places_from m taking)
       (λ n text e within. let some = local.some place n (b ∷ bs) text e in
-          (refl, enough k m (place + n) (drop n (b ∷ bs)) (omega (arith, length-drop n (b ∷ bs))) (omega (arith, length-drop n (b ∷ bs))))))
+      (refl, enough k m (place + n) (drop n (b ∷ bs)) (omega (arith, length-drop n (b ∷ bs))) (omega (arith, length-drop n (b ∷ bs))))))
 
   -- the place in front, and then the listing of what follows
   pub listing-place : (place : ℕ) (bytes : List ℕ) → 0 < length bytes → place < 2 ^ 32 → listing_by taking place bytes ≡ place_listing place bytes (taking place bytes) (listing_by taking)
@@ -54,7 +54,7 @@ module _ (taking : Taking) (local : IsLocal taking) where
       ap (λ t. cond t (ended place (Some (AddressEnd place))) (place_listing place (b ∷ bs) (taking place (b ∷ bs)) (places_from (length bs) taking))) (lt-leb (2 ^ 32) place low)
       ∙ place-same place (b ∷ bs) (b ∷ bs) (taking place (b ∷ bs)) (places_from (length bs) taking) (listing_by taking)
       (λ n text e within. let some = local.some place n (b ∷ bs) text e in
-          (refl, enough (length bs) (length (drop n (b ∷ bs))) (place + n) (drop n (b ∷ bs)) (omega (arith, length-drop n (b ∷ bs))) (omega arith)))
+      (refl, enough (length bs) (length (drop n (b ∷ bs))) (place + n) (drop n (b ∷ bs)) (omega (arith, length-drop n (b ∷ bs))) (omega arith)))
 
   -- behind the last address nothing is listed
   pub listing-over : (place : ℕ) (bytes : List ℕ) → 0 < length bytes → 2 ^ 32 ≤ place → listing_by taking place bytes ≡ ended place (Some (AddressEnd place))
@@ -72,9 +72,10 @@ module _ (taking : Taking) (local : IsLocal taking) where
       (ap (λ o. place_listing place (b ∷ take n bs) o (places_from k taking)) (local.front place (suc n) (b ∷ bs) (omega arith))
       ∙ place-same place (b ∷ take n bs) (b ∷ bs) (taking place (b ∷ bs)) (places_from k taking) (places_from k taking)
       (λ m text e within.
-          let r = suc n - m in let parts : suc n ≡ m + r = omega arith in
-          (take-take m (suc n) (b ∷ bs) (omega arith),
-          ap (places_from k taking (place + m)) (ap (λ i. drop m (take i (b ∷ bs))) parts ∙ drop-take m r (b ∷ bs)) ∙ front-same k (place + m) r (drop m (b ∷ bs)) within (omega arith))))
+      let r = suc n - m in let parts : suc n ≡ m + r = omega arith in (
+        take-take m (suc n) (b ∷ bs) (omega arith),
+        ap (places_from k taking (place + m)) (ap (λ i. drop m (take i (b ∷ bs))) parts ∙ drop-take m r (b ∷ bs)) ∙ front-same k (place + m) r (drop m (b ∷ bs)) within (omega arith),
+      )))
 
   -- bytes past the end of the addresses change nothing
   pub listing-take : (place n : ℕ) (bytes : List ℕ) → place ≤ 2 ^ 32 → 2 ^ 32 + 4 ≤ place + n → listing_by taking place (take n bytes) ≡ listing_by taking place bytes
@@ -94,8 +95,8 @@ module _ (taking : Taking) (local : IsLocal taking) where
           let here = rw (lt-leb (2 ^ 32) place less) at e in
           goes_on place (b ∷ bs) (taking place (b ∷ bs)) (places_from k taking) (place + length (b ∷ bs) ≤ 2 ^ 32)
           (λ n text is within rest.
-              let after = further n (local.some place n (b ∷ bs) text is) within rest in
-              let fits = local.fits place n (b ∷ bs) text is in omega (arith, length-drop n (b ∷ bs)))
+          let after = further n (local.some place n (b ∷ bs) text is) within rest in
+          let fits = local.fits place n (b ∷ bs) text is in omega (arith, length-drop n (b ∷ bs)))
           here
       by_address (inr more) further = let here = rw (le-leb (2 ^ 32) place more) at e in cc
 

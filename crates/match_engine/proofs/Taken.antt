@@ -109,7 +109,7 @@ module _ (spec : Spec) (arm : Arm) (place : ℕ) (values : List ℕ) (names : Ar
   piece-words (Words words) h = refl
   piece-words (Bound k) h =
       let count : length arm.names ≡ length (bare_fields arm.pattern) =
-          sym (length-map arm.names Some) ∙ ap length names.spelled ∙ length-map (bare_fields arm.pattern) (λ f. slice_get spec.field_names f.0) in
+      sym (length-map arm.names Some) ∙ ap length names.spelled ∙ length-map (bare_fields arm.pattern) (λ f. slice_get spec.field_names f.0) in
       let within : k < length values = omega (arith, count, same, h) in
       let at = slice_get-get_or values k 0 within in
       ap (λ o. option_map_or decimal o []) (name_value-simple spec arm place values k (get_or values k 0) names same at ∙ sym at)

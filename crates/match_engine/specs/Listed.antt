@@ -13,6 +13,11 @@ use Rattle.match_engine.specs.declared.image.ListFault.{ListFault}
 use Rattle.match_engine.specs.declared.image.ListFault.TheVariants.{NoMatch, AddressEnd, ReadFault, WriteFault, NoMemory}
 use Rattle.match_engine.specs.Listing.{Listing, listing}
 
+-- how a listing is answered that stops so
+abbrev pub fault_of : Stop → ListFault
+fault_of (stop.NoMatch a) = NoMatch a
+fault_of (stop.AddressEnd a) = AddressEnd a
+
 -- all lines are written, and the listing ended so
 pub record WroteListing (end : Option Stop) (old new : Option (List ℕ)) (l : Listing) : Type 0 where
   pub lines : Appends old new l.lines

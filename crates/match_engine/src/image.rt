@@ -1,5 +1,5 @@
 // The listing of an image, from a source into a sink.
-ghost use Rattle.std.specs.Prelude.{◌≤◌};
+ghost use Rattle.std.specs.Prelude.{◌≡◌, ◌≤◌};
 ghost use Rattle.sled_model.specs.OneToken.{IsOneTokenStatement};
 ghost use Rattle.match_engine.specs.Listed.{IsListed};
 
@@ -31,6 +31,19 @@ pub enum ListFault {
     /// The sink cannot be written.
     WriteFault,
     NoMemory,
+}
+
+impl From<Stop> for ListFault {
+    ghost use Rattle.match_engine.specs.Listed.{fault_of};
+
+    ghost from_gives = { λ stop fault. fault ≡ fault_of stop };
+
+    fn from(stop: Stop) -> ListFault {
+        match stop {
+            Stop::NoMatch(address) => ListFault::NoMatch(address),
+            Stop::AddressEnd(address) => ListFault::AddressEnd(address),
+        }
+    }
 }
 
 /// Lists all bytes of the source, the first of which stands at address `base`, by the arms of the statement in turn. The lines before a
@@ -65,7 +78,6 @@ pub fn list<I: Source, O: Sink>(
             places: lines.places,
             end: lines.end,
         }),
-        Some(Stop::NoMatch(address)) => Err(ListFault::NoMatch(address)),
-        Some(Stop::AddressEnd(address)) => Err(ListFault::AddressEnd(address)),
+        Some(stop) => Err(ListFault::from(stop)),
     }
 }
