@@ -1,8 +1,9 @@
 -- Arms that lack nothing are each of one token.
-use Rattle.std.proofs.Common.{◌≡◌, ◌≢◌, ℕ, zero, suc, ◌+◌, ◌-◌, ◌^◌, ◌<◌, ◌≤◌, Bool, true, false, cond, List, [], ◌∷◌, ◌++◌, length, map, take, drop, get_or, Some, None, All, slice_get, refl, sym, ap, ◌∙◌, subst, arith}
-use Rattle.std.specs.Prelude.{Option, ◌&&◌, ◌||◌, if◌then◌else◌, is_some, option_and_then, nat_eq, nat_lt, option_map, option_to_list, unwrap_or}
+use Rattle.std.proofs.Common.{◌≡◌, ◌≢◌, ℕ, zero, suc, ◌+◌, ◌-◌, ◌<◌, ◌≤◌, Bool, true, false, cond, List, [], ◌∷◌, ◌++◌, length, map, take, drop, get_or, Some, None, All, slice_get, refl, sym, ap, ◌∙◌, subst, arith}
+use Rattle.std.specs.Prelude.{Option, MatchOption, ◌&&◌, ◌||◌, if◌then◌else◌, is_some, option_and_then, nat_eq, nat_lt, option_map, option_to_list}
 use Rattle.std.specs.List.{list_all, list_any, flat_map, filter_map, cons_option}
 use Rattle.std.specs.Option.{IsSomeAnd}
+use Rattle.std.specs.Bool.{MatchBool, ◌==◌}
 use Rattle.std.proofs.lemmas.Bool.Decides.{nat_tests}
 use Rattle.std.proofs.lemmas.List.{append-nil, length-append}
 use Rattle.std.proofs.lemmas.List.Elements.{All-nil, All-cons, All-append, filter_map-append}
@@ -18,26 +19,24 @@ use Rattle.sled_model.specs.declared.tokens.Class.{Class}
 use Rattle.sled_model.specs.declared.tokens.ClassId.{ClassId}
 use Rattle.sled_model.specs.declared.tokens.Field.{Field}
 use Rattle.sled_model.specs.declared.tokens.FieldId.{FieldId}
-use Rattle.sled_model.specs.declared.tokens.Tokens.{Tokens}
 use Rattle.sled_model.specs.declared.pattern.Pattern.{Pattern}
-use Rattle.sled_model.specs.declared.pattern.Pattern.TheVariants.{Token, Limit, Bind, Both, Empty}
+use Rattle.sled_model.specs.declared.pattern.Pattern.TheVariants.{Token, Limit, Bind, Both}
 use Rattle.sled_model.specs.declared.spec.Spec.{Spec}
 use Rattle.sled_model.specs.declared.statement.Arm.{Arm}
 use Rattle.sled_model.specs.declared.statement.Piece.{Piece}
 use Rattle.sled_model.specs.declared.statement.Piece.TheVariants.{Words, Bound}
-use Rattle.sled_model.specs.Tokens.{AreTokens, IsFieldOf}
-use Rattle.sled_model.specs.Simple.{IsOfClass, IsTerm, IsSimple, IsSimpleArm, AreNamesOf, terms_of, term_fields, bare_fields}
+use Rattle.sled_model.specs.Tokens.{IsFieldOf}
+use Rattle.sled_model.specs.Simple.{IsOfClass, IsTerm, IsSimple, terms_of, term_fields, bare_fields}
 use Rattle.sled_model.specs.OneToken.{IsPieceOf, IsOneTokenArm}
 use Rattle.sled_model.proofs.SimpleLemmas.{terms_of-Both, IsSimple-Both, IsSimple-term}
 use Rattle.sled_elab.specs.Names.{position_of, is_among, are_distinct}
 use Rattle.sled_elab.specs.declared.lack.Lack.{Lack}
 use Rattle.sled_elab.specs.declared.lack.Lack.TheVariants.{Condition, NotBuilt}
 use Rattle.sled_elab.specs.Conditions.{first_unmet, names_known, constants_fit, bound_once, action_is_bound, arm_lack, first_lack, arms_lack}
-use Rattle.sled_elab.specs.Terms.{layer_terms, terms, spec_names, numbered, word_pattern, field_at, field_number, limit_pattern, relation_of, layer_pattern, term_pattern, layer_binds, bound_names, joined, arm_pattern, is_built_layer, is_built_term, is_built_pattern}
+use Rattle.sled_elab.specs.Terms.{layer_terms, terms, spec_names, numbered, field_at, field_number, limit_pattern, relation_of, layer_pattern, term_pattern, layer_binds, bound_names, joined, arm_pattern, is_built_term, is_built_pattern}
 use Rattle.sled_elab.specs.Actions.{outside, inside, behind, bound_piece, words_piece, action_pieces, unquoted}
-use Rattle.sled_elab.specs.Meaning.{arm_names, arm_of}
 use Rattle.sled_elab.specs.Built.{IsBuiltSpec}
-use Rattle.sled_elab.proofs.NamesLemmas.{position_found, slice_get-append, slice_get-at, distinct_pairs, distinct_push, distinct_false, map-append, length-map}
+use Rattle.sled_elab.proofs.NamesLemmas.{position_found, slice_get-append, slice_get-at, distinct_pairs, distinct_push, distinct_false, map-append}
 use Rattle.sled_elab.proofs.ListLemmas.{All-slice_get, take-here, drop-here, around-here}
 
 -- ---- the one class and its fields
@@ -396,9 +395,9 @@ pub patterns_more : (spec : Spec) (ts : List PatternTree) (i : ℕ) (t : Pattern
 patterns_more spec ts i t h is =
     ap (filter_map (term_pattern spec)) (take-here ts i t h is) ∙ filter_map-append (term_pattern spec) (take i ts) (t ∷ [])
     ∙ ap (λ (r : List Pattern). filter_map (term_pattern spec) (take i ts) ++ r) (one_option (term_pattern spec t)) where
-  one_option : (o : Option Pattern) → cons_option o [] ≡ option_to_list o
-  one_option None = refl
-  one_option (Some p) = refl
+      one_option : (o : Option Pattern) → cons_option o [] ≡ option_to_list o
+      one_option None = refl
+      one_option (Some p) = refl
 
 -- the arms from one on, where it lacks nothing
 pub arms_lack-met : (spec : Spec) (trees : List ArmTree) (i : ℕ) (tree : ArmTree) (has_skip : Bool) → i < length trees → tree ≡ get_or trees i tree → arm_lack spec tree ≡ None
@@ -413,3 +412,32 @@ pub arms_lack-at : (spec : Spec) (trees : List ArmTree) (i : ℕ) (tree : ArmTre
 arms_lack-at spec trees i tree lack has_skip h is lacks =
     ap (λ (r : List ArmTree). arms_lack spec (i + 1) r has_skip) (drop-here trees i tree h ∙ ap (λ (a : ArmTree). a ∷ drop (i + 1) trees) (sym is))
     ∙ ap (λ (l : Option Lack). first_lack (i + 1) l (arms_lack spec (i + 1 + 1) (drop (i + 1) trees) has_skip)) lacks
+
+-- ---- what tests and cases tell
+
+pub told_true : (P Q : Type 0) (b : Bool) → b ≡ true → MatchBool b P Q → P
+told_true P Q true e h = h
+told_true P Q false e h = cc
+
+pub told_false : (P Q : Type 0) (b : Bool) → b ≡ false → MatchBool b P Q → Q
+told_false P Q false e h = h
+told_false P Q true e h = cc
+
+-- the terms of a form that is built
+pub form_built : (ts : List PatternTree) (t : Bool) → nat_lt 0 (length ts) ≡ true → t ≡ list_all is_built_term ts → t ≡ (nat_lt 0 (length ts) && list_all is_built_term ts)
+form_built ts t some is = is ∙ sym (rw (some) refl)
+
+pub some_terms : (n : ℕ) → (n == 0) ≡ false → nat_lt 0 n ≡ true
+some_terms n h = grind (arith, nat_tests)
+
+-- a case of an option
+pub told_some : {A : Type 0} (P : Type 0) (Q : A → Type 0) (o : Option A) (x : A) → o ≡ Some x → MatchOption o P Q → Q x
+told_some P Q (Some y) x e h = let same : y ≡ x = cc in subst Q same h
+told_some P Q None x e h = cc
+
+-- arms of the same parts
+pub arm_same : {p q : Pattern} {ns ms : List (List ℕ)} {action : List Piece} → p ≡ q → ns ≡ ms
+    → (let a : Arm = record { pattern = p; names = ns; action = action } in a) ≡ record { pattern = q; names = ms; action = action }
+arm_same {p} {q} {ns} {ms} {action} e f =
+    ap (λ (x : Pattern). let a : Arm = record { pattern = x; names = ns; action = action } in a) e
+    ∙ ap (λ (x : List (List ℕ)). let a : Arm = record { pattern = q; names = x; action = action } in a) f

@@ -101,12 +101,7 @@ fn arms(
     Ok(arms)
 }
 
-fn arm(
-    alloc: Global,
-    spec: &Spec,
-    names: &NameTable<'_>,
-    tree: &ArmTree,
-) -> Result<Arm, ArmFault>
+fn arm(alloc: Global, spec: &Spec, names: &NameTable<'_>, tree: &ArmTree) -> Result<Arm, ArmFault>
     requires scope { IsScope spec.now names.now }
     requires few { HasFewTerms tree.now }
     ensures made { IfOk result (λ arm. arm ≡ arm_of spec.now tree.now) }
