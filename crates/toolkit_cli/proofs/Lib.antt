@@ -1,0 +1,4 @@
+pub mod Addresses
+pub mod FewLemmas
+pub mod TextLemmas
+pub mod StandsLemmas

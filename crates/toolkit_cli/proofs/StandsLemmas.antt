@@ -1,0 +1,230 @@
+-- How what stands after a part of a run makes what stands after the whole.
+use Rattle.std.proofs.Common.{◌≡◌, ◌⊎◌, inl, inr, ℕ, ◌≤◌, List, [], length, Some, None, refl, sym, ◌∙◌, ap, subst, append-nil, arith}
+use Rattle.std.proofs.Math.Seq.{take-length}
+use Rattle.std.specs.Prelude.{Option, option_map, codes}
+use Rattle.std.specs.Option.{ForSome}
+use Rattle.std.specs.Io.KnownBytes.{Appends, Keeps}
+use Rattle.sled_base.specs.Causes.{Rose}
+use Rattle.sled_base.specs.Contents.{AppendsProperPrefix}
+use Rattle.sled_model.specs.declared.spec.Spec.{Spec}
+use Rattle.sled_model.specs.declared.statement.Statement.{Statement}
+use Rattle.match_engine.specs.declared.listing.Stop.{Stop}
+use Rattle.match_engine.specs.Listing.{Listing, listing}
+use Rattle.match_engine.specs.Listed.{WroteListing}
+use Rattle.toolkit_cli.specs.declared.status.Status.{Status}
+use Rattle.toolkit_cli.specs.declared.status.Status.TheVariants.{Done, Refused, Usage, ReadFault, WriteFault, NoMemory}
+use Rattle.toolkit_cli.specs.declared.messages.Problem.{Problem}
+use Rattle.toolkit_cli.specs.declared.messages.Problem.TheVariants as problem
+use Rattle.toolkit_cli.specs.declared.texts.TextStop.{TextStop}
+use Rattle.toolkit_cli.specs.declared.texts.TextStop.TheVariants.{Unread as UnreadText, Refused as RefusedText, NoMemory as NoTextMemory}
+use Rattle.toolkit_cli.specs.Words.{Words}
+use Rattle.toolkit_cli.specs.Messages.{message, problem_number, usage_text}
+use Rattle.toolkit_cli.specs.Reply.{Settled, no_form, refused_text, accepted, Settles, SettlesDis, Reply, reply, refused, listing_reply, listed_reply, stop_problem, usage_reply}
+use Rattle.toolkit_cli.specs.Told.{Told}
+use Rattle.toolkit_cli.specs.Stands.{Change, HasFailed, Gets, GetsPrefix, GetsNothing, IsReply, OutFailed, NotesFailed, UnreadNotesFailed, IsUnread, HasPart, IsAnswer, Answered, IsUnwritten, IsForgone, Stands, StopTold, Unread, UnreadByWords, InputUnread}
+
+-- a count that rose later has risen
+pub Rose-later : (a b c : ℕ) → a ≤ b → Rose b c → Rose a c
+Rose-later a b c le rose = omega arith
+
+pub Keeps-same : (a b : Option (List ℕ)) → b ≡ a → Keeps a b
+Keeps-same None b e = tt
+Keeps-same (Some x) None e = cc
+Keeps-same (Some x) (Some y) e = cc
+
+pub Gets-nothing : (s : Change) → GetsNothing s → Gets s []
+Gets-nothing s h = gets_nothing s.old s.new h where
+  gets_nothing : (a b : Option (List ℕ)) → Keeps a b → Appends a b []
+  gets_nothing None b h = tt
+  gets_nothing (Some x) None h = absurd h
+  gets_nothing (Some x) (Some y) h = h ∙ sym (append-nil x)
+
+GetsPrefix-none : (s : Change) (bytes : List ℕ) → GetsNothing s → GetsPrefix s bytes
+GetsPrefix-none s bytes h = (0, Gets-nothing s h)
+
+GetsPrefix-all : (s : Change) (bytes : List ℕ) → Gets s bytes → GetsPrefix s bytes
+GetsPrefix-all s bytes h = (length bytes, subst (λ (b : List ℕ). Appends s.old s.new b) (sym (take-length bytes)) h)
+
+-- the output is that of the reply, and these are its notes and its status
+pub record HasOutput (sink : Change) (note : List ℕ) (wanted : Status) (r : Reply) : Type 0 where
+  pub output : Gets sink r.output
+  pub text : r.notes ≡ note
+  pub answer : r.status ≡ wanted
+
+is_reply : (sink log : Change) (note : List ℕ) (wanted : Status) (r : Reply) → HasOutput sink note wanted r → Gets log note → IsReply sink log wanted r
+is_reply sink log note wanted r has got = record { output = has.output; notes = subst (λ (b : List ℕ). Gets log b) (sym has.text) got; status = sym has.answer }
+
+answer_stands : (settles : Settled → Type 0) (input : Option (List ℕ)) (unread : List ℕ → Type 0) (sink log : Change) (note : List ℕ) (wanted : Status) (s : Settled) → IsAnswer wanted → settles s
+    → ForSome (reply s input) (HasOutput sink note wanted) → Gets log note → Stands settles input unread sink log wanted
+answer_stands settles input unread sink log note Done s is so has got = (s, so, λ r e. is_reply sink log note Done r (has r e) got)
+answer_stands settles input unread sink log note (Refused number) s is so has got = (s, so, λ r e. is_reply sink log note (Refused number) r (has r e) got)
+answer_stands settles input unread sink log note Usage s is so has got = (s, so, λ r e. is_reply sink log note Usage r (has r e) got)
+answer_stands settles input unread sink log note ReadFault s is so has got = absurd is
+answer_stands settles input unread sink log note WriteFault s is so has got = absurd is
+answer_stands settles input unread sink log note NoMemory s is so has got = absurd is
+
+-- the notes of a reply whose output is written
+pub told_stands : (settles : Settled → Type 0) (input : Option (List ℕ)) (unread : List ℕ → Type 0) (sink log : Change) (note : List ℕ) (wanted status : Status) (s : Settled) → IsAnswer wanted → settles s
+    → ForSome (reply s input) (HasOutput sink note wanted) → Told log.old log.new log.count log.new_count note wanted status → Stands settles input unread sink log status
+told_stands settles input unread sink log note wanted status s is so has (inl h) =
+    subst (λ (a : Status). Stands settles input unread sink log a) (sym h.0) (answer_stands settles input unread sink log note wanted s is so has h.1)
+told_stands settles input unread sink log note wanted status s is so has (inr (inl h)) = subst (λ (a : Status). Stands settles input unread sink log a) (sym h.0) (inl (s, so, inr (record {
+  cause = h.1;
+  output = λ r e. (has r e).output;
+  notes = λ r e. subst (λ (b : List ℕ). AppendsProperPrefix log.old log.new b) (sym (has r e).text) h.2;
+})))
+told_stands settles input unread sink log note wanted status s is so has (inr (inr h)) = subst (λ (a : Status). Stands settles input unread sink log a) (sym h.0) (inr (s, so, λ r e. record {
+  output = GetsPrefix-all sink r.output (has r e).output;
+  notes = GetsPrefix-none log r.notes h.1;
+}))
+
+-- the message that a read failed
+pub unread_stands : (settles : Settled → Type 0) (input : Option (List ℕ)) (unread : List ℕ → Type 0) (sink log : Change) (name : List ℕ) (status : Status) → unread name → GetsNothing sink
+    → Told log.old log.new log.count log.new_count (message name problem.Unread) ReadFault status → Stands settles input unread sink log status
+unread_stands settles input unread sink log name status read kept (inl h) =
+    subst (λ (a : Status). Stands settles input unread sink log a) (sym h.0) (record { name = name; read = read; output = kept; notes = h.1 })
+unread_stands settles input unread sink log name status read kept (inr (inl h)) =
+    subst (λ (a : Status). Stands settles input unread sink log a) (sym h.0) (inr (record { cause = h.1; name = name; read = read; output = kept; notes = h.2 }))
+unread_stands settles input unread sink log name status read kept (inr (inr h)) =
+    subst (λ (a : Status). Stands settles input unread sink log a) (sym h.0) (inl (kept, h.1))
+
+refused_output : (sink : Change) (name : List ℕ) (p : Problem) (r : Reply) → GetsNothing sink → Some (refused [] name p) ≡ Some r → HasOutput sink (message name p) (Refused (problem_number p)) r
+refused_output sink name p r kept e =
+    let same : refused [] name p ≡ r = cc in
+    subst (λ (x : Reply). HasOutput sink (message name p) (Refused (problem_number p)) x) same (record { output = Gets-nothing sink kept; text = refl; answer = refl })
+
+-- a text that does not serve, before anything is written
+pub stopped_stands : (settles : Settled → Type 0) (input : Option (List ℕ)) (unread : List ℕ → Type 0) (sink log : Change) (name : List ℕ) (stop : TextStop) (status : Status)
+    → (stop ≡ UnreadText → unread name) → ((p : Problem) → stop ≡ RefusedText p → settles (refused_text name p)) → GetsNothing sink → StopTold log name stop status
+    → Stands settles input unread sink log status
+stopped_stands settles input unread sink log name UnreadText status read so kept h = unread_stands settles input unread sink log name status (read refl) kept h
+stopped_stands settles input unread sink log name (RefusedText p) status read so kept h =
+    told_stands settles input unread sink log (message name p) (Refused (problem_number p)) status (refused_text name p) tt (so p refl) (λ r e. refused_output sink name p r kept e) h
+stopped_stands settles input unread sink log name NoTextMemory status read so kept h =
+    subst (λ (a : Status). Stands settles input unread sink log a) (sym h.0) (inl (kept, h.1))
+
+-- what stands for a later part stands for the whole
+pub Stands-along : (settles later : Settled → Type 0) (input : Option (List ℕ)) (unread unread_later : List ℕ → Type 0) (sink log : Change) (status : Status)
+    → ((s : Settled) → later s → settles s) → ((name : List ℕ) → unread_later name → unread name) → Stands later input unread_later sink log status → Stands settles input unread sink log status
+Stands-along settles later input unread unread_later sink log Done up read h = (h.0, up h.0 h.1, h.2)
+Stands-along settles later input unread unread_later sink log (Refused number) up read h = (h.0, up h.0 h.1, h.2)
+Stands-along settles later input unread unread_later sink log Usage up read h = (h.0, up h.0 h.1, h.2)
+Stands-along settles later input unread unread_later sink log ReadFault up read h = record { name = h.name; read = read h.name h.read; output = h.output; notes = h.notes }
+Stands-along settles later input unread unread_later sink log WriteFault up read (inl h) = inl (h.0, up h.0 h.1, h.2)
+Stands-along settles later input unread unread_later sink log WriteFault up read (inr h) = inr (record { cause = h.cause; name = h.name; read = read h.name h.read; output = h.output; notes = h.notes })
+Stands-along settles later input unread unread_later sink log NoMemory up read (inl h) = inl h
+Stands-along settles later input unread unread_later sink log NoMemory up read (inr h) = inr (h.0, up h.0 h.1, h.2)
+
+-- ---- the listing
+
+map_some : {A B : Type 0} (o : Option A) (f : A → B) (r : B) → option_map f o ≡ Some r → (a : A) × (o ≡ Some a) × (f a ≡ r)
+map_some None f r e = cc
+map_some (Some a) f r e = (a, refl, some_same (f a) r e) where
+  some_same : {C : Type 0} (x y : C) → Some x ≡ Some y → x ≡ y
+  some_same x y e = cc
+
+-- the listing stopped, and its lines are written
+pub input_stopped : (spec : Spec) (statement : Statement) (base : ℕ) (input : Option (List ℕ)) (sink : Change) (stop : Stop)
+    → ForSome input (λ bytes. WroteListing (Some stop) sink.old sink.new (listing spec statement base bytes))
+    → ForSome (reply (accepted spec statement base) input) (HasOutput sink (message (codes "input") (stop_problem stop)) (Refused (problem_number (stop_problem stop))))
+input_stopped spec statement base input sink stop wrote r e =
+    let bytes = map_some input (λ (b : List ℕ). listing_reply (listing spec statement base b)) r e in
+    let l = listing spec statement base bytes.0 in
+    let done = wrote bytes.0 bytes.1 in
+    let same : refused l.lines (codes "input") (stop_problem stop) ≡ r = ap (λ (s : Option Stop). listed_reply l.lines s) (sym done.stop) ∙ bytes.2 in
+    subst (λ (x : Reply). HasOutput sink (message (codes "input") (stop_problem stop)) (Refused (problem_number (stop_problem stop))) x) same
+    (record { output = done.lines; text = refl; answer = refl })
+
+-- the listing is whole
+pub input_done : (spec : Spec) (statement : Statement) (base : ℕ) (input : Option (List ℕ)) (sink log : Change) → GetsNothing log
+    → ForSome input (λ bytes. WroteListing None sink.old sink.new (listing spec statement base bytes))
+    → ForSome (reply (accepted spec statement base) input) (IsReply sink log Done)
+input_done spec statement base input sink log kept wrote r e =
+    let bytes = map_some input (λ (b : List ℕ). listing_reply (listing spec statement base b)) r e in
+    let l = listing spec statement base bytes.0 in
+    let done = wrote bytes.0 bytes.1 in
+    let same : (let x : Reply = record { output = l.lines; notes = []; status = Done } in x) ≡ r = ap (λ (s : Option Stop). listed_reply l.lines s) (sym done.stop) ∙ bytes.2 in
+    subst (λ (x : Reply). IsReply sink log Done x) same (record { output = done.lines; notes = Gets-nothing log kept; status = refl })
+
+output_of : (lines : List ℕ) (stop : Option Stop) → (listed_reply lines stop).output ≡ lines
+output_of lines None = refl
+output_of lines (Some s) = refl
+
+-- the output has a part of the lines
+pub input_unwritten : (spec : Spec) (statement : Statement) (base : ℕ) (input : Option (List ℕ)) (sink log : Change) → GetsNothing log → HasFailed sink
+    → ForSome input (λ bytes. AppendsProperPrefix sink.old sink.new (listing spec statement base bytes).lines)
+    → OutFailed (reply (accepted spec statement base) input) sink log
+input_unwritten spec statement base input sink log kept cause part = record {
+  cause = cause;
+  output = λ r e.
+      let bytes = map_some input (λ (b : List ℕ). listing_reply (listing spec statement base b)) r e in
+      let l = listing spec statement base bytes.0 in
+      subst (λ (out : List ℕ). AppendsProperPrefix sink.old sink.new out) (sym (output_of l.lines l.stop) ∙ ap (λ (x : Reply). x.output) bytes.2) (part bytes.0 bytes.1);
+  notes = kept;
+}
+
+-- ---- the words
+
+-- no form: the usage text
+pub usage_output : (sink : Change) (input : Option (List ℕ)) → GetsNothing sink → ForSome (reply no_form input) (HasOutput sink usage_text Usage)
+usage_output sink input kept r e =
+    let same : usage_reply ≡ r = cc in
+    subst (λ (x : Reply). HasOutput sink usage_text Usage x) same (record { output = Gets-nothing sink kept; text = refl; answer = refl })
+
+-- what the words ask for decides
+pub by_words : (asked form : Option Words) (texts : List ℕ → Option (List ℕ)) (input : Option (List ℕ)) (shelf_rose : List ℕ → Type 0) (input_rose : Type 0) (sink log : Change) (status : Status) → asked ≡ form
+    → Stands (Settles form texts) input (UnreadByWords form texts shelf_rose input_rose) sink log status → Stands (Settles asked texts) input (UnreadByWords asked texts shelf_rose input_rose) sink log status
+by_words asked form texts input shelf_rose input_rose sink log status e h =
+    subst (λ (w : Option Words). Stands (Settles w texts) input (UnreadByWords w texts shelf_rose input_rose) sink log status) (sym e) h
+
+-- ---- each status by itself
+
+pub stands_answer : (settles : Settled → Type 0) (input : Option (List ℕ)) (unread : List ℕ → Type 0) (sink log : Change) (status : Status) → IsAnswer status → Stands settles input unread sink log status
+    → Answered settles input (IsReply sink log status)
+stands_answer settles input unread sink log Done is h = h
+stands_answer settles input unread sink log (Refused number) is h = h
+stands_answer settles input unread sink log Usage is h = h
+stands_answer settles input unread sink log ReadFault is h = absurd is
+stands_answer settles input unread sink log WriteFault is h = absurd is
+stands_answer settles input unread sink log NoMemory is h = absurd is
+
+-- no read failed where no count rose
+pub none_unread : (asked : Option Words) (texts : List ℕ → Option (List ℕ)) (shelf_rose : List ℕ → Type 0) (input_rose : Type 0) → ((name : List ℕ) → ¬ shelf_rose name) → ¬ input_rose
+    → (name : List ℕ) → ¬ UnreadByWords asked texts shelf_rose input_rose name
+none_unread None texts shelf_rose input_rose shelf input name h = h
+none_unread (Some words) texts shelf_rose input_rose shelf input name (inl h) = shelf words.spec h.1
+none_unread (Some words) texts shelf_rose input_rose shelf input name (inr (inl h)) = shelf words.matching h.2
+none_unread (Some words) texts shelf_rose input_rose shelf input name (inr (inr h)) = input h.2
+
+unwritten_rose : (settles : Settled → Type 0) (input : Option (List ℕ)) (unread : List ℕ → Type 0) (sink log : Change) → IsUnwritten settles input unread sink log → ¬ HasFailed sink → ¬ HasFailed log → ⊥
+unwritten_rose settles input unread sink log (inl h) out notes = by_part h.2 where
+  by_part : OutFailed (reply h.0 input) sink log ⊎ NotesFailed (reply h.0 input) sink log → ⊥
+  by_part (inl k) = out k.cause
+  by_part (inr k) = notes k.cause
+unwritten_rose settles input unread sink log (inr h) out notes = notes h.cause
+
+-- where nothing rose, it is an answer or want of memory
+pub stands_complete : (settles : Settled → Type 0) (input : Option (List ℕ)) (unread : List ℕ → Type 0) (sink log : Change) (status : Status) → ((name : List ℕ) → ¬ unread name) → ¬ HasFailed sink → ¬ HasFailed log
+    → Stands settles input unread sink log status → IsAnswer status ⊎ (status ≡ NoMemory)
+stands_complete settles input unread sink log Done unasked out notes h = inl tt
+stands_complete settles input unread sink log (Refused number) unasked out notes h = inl tt
+stands_complete settles input unread sink log Usage unasked out notes h = inl tt
+stands_complete settles input unread sink log ReadFault unasked out notes h = absurd (unasked h.name h.read)
+stands_complete settles input unread sink log WriteFault unasked out notes h = absurd (unwritten_rose settles input unread sink log h out notes)
+stands_complete settles input unread sink log NoMemory unasked out notes h = inr refl
+
+-- no form: the usage text, a failed write of it, or no memory
+pub stands_no_form : (asked : Option Words) (texts : List ℕ → Option (List ℕ)) (input : Option (List ℕ)) (shelf_rose : List ℕ → Type 0) (input_rose : Type 0) (sink log : Change) (status : Status) → asked ≡ None
+    → Stands (Settles asked texts) input (UnreadByWords asked texts shelf_rose input_rose) sink log status → (status ≡ Usage) ⊎ ((status ≡ WriteFault) ⊎ (status ≡ NoMemory))
+stands_no_form asked texts input shelf_rose input_rose sink log status e h =
+    formless status (subst (λ (w : Option Words). Stands (Settles w texts) input (UnreadByWords w texts shelf_rose input_rose) sink log status) e h) where
+  usage_status : (answer : Status) (s : Settled) → s ≡ no_form → ForSome (reply s input) (IsReply sink log answer) → answer ≡ Usage
+  usage_status answer s is h = (subst (λ (x : Settled). ForSome (reply x input) (IsReply sink log answer)) is h usage_reply refl).status
+
+  formless : (status : Status) → Stands (λ s. s ≡ no_form) input (UnreadByWords None texts shelf_rose input_rose) sink log status → (status ≡ Usage) ⊎ ((status ≡ WriteFault) ⊎ (status ≡ NoMemory))
+  formless Done h = inl (usage_status Done h.0 h.1 h.2)
+  formless (Refused number) h = inl (usage_status (Refused number) h.0 h.1 h.2)
+  formless Usage h = inl refl
+  formless ReadFault h = absurd h.read
+  formless WriteFault h = inr (inl refl)
+  formless NoMemory h = inr (inr refl)

@@ -1,0 +1,8 @@
+use Rattle.toolkit_cli.proofs.StandsLemmas.{stands_answer, stands_no_form}
+use Rattle.toolkit_cli.proofs.program.run.Goals as goal
+
+pub returns-clause-answered : goal.returns-clause-answered
+returns-clause-answered g c = λ is. stands_answer _ _ _ _ _ _ is c.answer.ensures.stands
+
+pub returns-clause-no_form : goal.returns-clause-no_form
+returns-clause-no_form g c = λ e. stands_no_form _ _ _ _ _ _ _ _ e c.answer.ensures.stands

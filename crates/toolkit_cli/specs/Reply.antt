@@ -1,0 +1,77 @@
+-- What the words and the texts come to, and what a run then writes and answers where no call of the outside fails.
+use Rattle.std.specs.Prelude.{◌≡◌, ◌⊎◌, ℕ, List, [], Option, None, Some, option_map, codes}
+use Rattle.std.specs.Option.{ForSome}
+use Rattle.sled_model.specs.declared.spec.Spec.{Spec}
+use Rattle.sled_model.specs.declared.statement.Statement.{Statement}
+use Rattle.match_engine.specs.declared.listing.Stop.{Stop}
+use Rattle.match_engine.specs.declared.listing.Stop.TheVariants as stop
+use Rattle.match_engine.specs.Listing.{Listing, listing}
+use Rattle.toolkit_cli.specs.declared.status.Status.{Status}
+use Rattle.toolkit_cli.specs.declared.status.Status.TheVariants.{Done, Refused, Usage}
+use Rattle.toolkit_cli.specs.declared.messages.Problem.{Problem}
+use Rattle.toolkit_cli.specs.declared.messages.Problem.TheVariants.{NoMatch, AddressEnd}
+use Rattle.toolkit_cli.specs.Messages.{message, problem_number, usage_text}
+use Rattle.toolkit_cli.specs.Words.{Words}
+use Rattle.toolkit_cli.specs.Texts.{IsDescribed, RefusesDescription, IsStated, RefusesStatement}
+
+-- ---- what the words and the texts come to
+
+pub data Settled : Type 0 where
+  no_form : Settled
+  refused_text : List ℕ → Problem → Settled
+  accepted : Spec → Statement → ℕ → Settled
+
+-- the text of SPEC, as far as it is told, makes this description
+abbrev pub MakesSpec : Words → (List ℕ → Option (List ℕ)) → Spec → Type 0
+MakesSpec words texts spec = ForSome (texts words.spec) (λ t. IsDescribed t spec)
+
+-- and that of MATCH makes this statement
+abbrev pub MakesStatement : Words → (List ℕ → Option (List ℕ)) → Spec → Statement → Type 0
+MakesStatement words texts spec statement = ForSome (texts words.matching) (λ t. IsStated spec t statement)
+
+-- SPEC is refused, or MATCH is refused over what SPEC makes
+abbrev pub RefusesText : Words → (List ℕ → Option (List ℕ)) → List ℕ → Problem → Type 0
+RefusesText words texts name p =
+    ((name ≡ words.spec) × ForSome (texts words.spec) (λ t. RefusesDescription t p))
+    ⊎ ((name ≡ words.matching) × ((spec : Spec) × MakesSpec words texts spec × ForSome (texts words.matching) (λ t. RefusesStatement spec t p)))
+
+abbrev pub SettlesDis : Words → (List ℕ → Option (List ℕ)) → Settled → Type 0
+SettlesDis words texts no_form = ⊥
+SettlesDis words texts (refused_text name p) = RefusesText words texts name p
+SettlesDis words texts (accepted spec statement base) = (base ≡ words.base) × MakesSpec words texts spec × MakesStatement words texts spec statement
+
+-- what the words and the texts come to, as far as the texts are told
+abbrev pub Settles : Option Words → (List ℕ → Option (List ℕ)) → Settled → Type 0
+Settles None texts s = s ≡ no_form
+Settles (Some words) texts s = SettlesDis words texts s
+
+-- ---- what is written and answered
+
+pub record Reply : Type 0 where
+  pub output : List ℕ
+  pub notes : List ℕ
+  pub status : Status
+
+abbrev pub refused : List ℕ → List ℕ → Problem → Reply
+refused output name p = record { output = output; notes = message name p; status = Refused (problem_number p) }
+
+abbrev pub stop_problem : Stop → Problem
+stop_problem (stop.NoMatch address) = NoMatch address
+stop_problem (stop.AddressEnd address) = AddressEnd address
+
+-- the listing's lines, and how it ended
+abbrev pub listed_reply : List ℕ → Option Stop → Reply
+listed_reply lines None = record { output = lines; notes = []; status = Done }
+listed_reply lines (Some s) = refused lines (codes "input") (stop_problem s)
+
+abbrev pub listing_reply : Listing → Reply
+listing_reply l = listed_reply l.lines l.stop
+
+abbrev pub usage_reply : Reply
+usage_reply = record { output = []; notes = usage_text; status = Usage }
+
+-- None: it rests on input that is not told
+abbrev pub reply : Settled → Option (List ℕ) → Option Reply
+reply no_form input = Some usage_reply
+reply (refused_text name p) input = Some (refused [] name p)
+reply (accepted spec statement base) input = option_map (λ bytes. listing_reply (listing spec statement base bytes)) input

@@ -1,0 +1,144 @@
+-- What stands after a run, status by status.
+use Rattle.std.specs.Prelude.{◌≡◌, ℕ, ◌⊎◌, List, take, Option, None, Some, codes}
+use Rattle.std.specs.Option.{ForSome}
+use Rattle.std.specs.Io.KnownBytes.{Appends, Keeps}
+use Rattle.sled_base.specs.Causes.{Rose}
+use Rattle.sled_base.specs.Contents.{AppendsProperPrefix}
+use Rattle.sled_model.specs.declared.spec.Spec.{Spec}
+use Rattle.sled_model.specs.declared.statement.Statement.{Statement}
+use Rattle.toolkit_cli.specs.declared.messages.Problem.{Problem}
+use Rattle.toolkit_cli.specs.declared.messages.Problem.TheVariants as problem
+use Rattle.toolkit_cli.specs.declared.status.Status.{Status}
+use Rattle.toolkit_cli.specs.declared.status.Status.TheVariants.{Done, Refused, Usage, ReadFault, WriteFault, NoMemory}
+use Rattle.toolkit_cli.specs.declared.texts.TextStop.{TextStop}
+use Rattle.toolkit_cli.specs.declared.texts.TextStop.TheVariants.{Unread as UnreadText, Refused as RefusedText, NoMemory as NoTextMemory}
+use Rattle.toolkit_cli.specs.Words.{Words}
+use Rattle.toolkit_cli.specs.Messages.{message, problem_number}
+use Rattle.toolkit_cli.specs.Reply.{Settled, Reply, reply, MakesSpec, MakesStatement}
+use Rattle.toolkit_cli.specs.Told.{Told}
+
+-- what a sink went through: its contents, where they are told, and its count of faults
+pub record Change : Type 0 where
+  pub old : Option (List ℕ)
+  pub new : Option (List ℕ)
+  pub count : ℕ
+  pub new_count : ℕ
+
+-- the sink's count rose
+abbrev pub HasFailed : Change → Type 0
+HasFailed s = Rose s.count s.new_count
+
+-- it got these bytes
+abbrev pub Gets : Change → List ℕ → Type 0
+Gets s bytes = Appends s.old s.new bytes
+
+-- it got some first bytes of these
+abbrev pub GetsPrefix : Change → List ℕ → Type 0
+GetsPrefix s bytes = (n : ℕ) × Appends s.old s.new (take n bytes)
+
+-- and not all of them
+abbrev pub GetsProperPrefix : Change → List ℕ → Type 0
+GetsProperPrefix s bytes = AppendsProperPrefix s.old s.new bytes
+
+abbrev pub GetsNothing : Change → Type 0
+GetsNothing s = Keeps s.old s.new
+
+-- ---- a read that failed
+
+-- SPEC is accepted
+abbrev pub AcceptsSpec : Words → (List ℕ → Option (List ℕ)) → Type 0
+AcceptsSpec words texts = (spec : Spec) × MakesSpec words texts spec
+
+-- SPEC and MATCH are accepted
+abbrev pub AcceptsTexts : Words → (List ℕ → Option (List ℕ)) → Type 0
+AcceptsTexts words texts = (spec : Spec) × (statement : Statement) × MakesSpec words texts spec × MakesStatement words texts spec statement
+
+-- a call that reads failed, a text's or the input's, and this is its name; what is read before it is accepted
+abbrev pub Unread : Words → (List ℕ → Option (List ℕ)) → (List ℕ → Type 0) → Type 0 → List ℕ → Type 0
+Unread words texts shelf_rose input_rose name =
+    ((name ≡ words.spec) × shelf_rose words.spec)
+    ⊎ (((name ≡ words.matching) × AcceptsSpec words texts × shelf_rose words.matching)
+    ⊎ ((name ≡ codes "input") × AcceptsTexts words texts × input_rose))
+
+abbrev pub UnreadByWords : Option Words → (List ℕ → Option (List ℕ)) → (List ℕ → Type 0) → Type 0 → List ℕ → Type 0
+UnreadByWords None texts shelf_rose input_rose name = ⊥
+UnreadByWords (Some words) texts shelf_rose input_rose name = Unread words texts shelf_rose input_rose name
+
+-- ---- what stands
+
+-- output, notes and status are those of the reply
+pub record IsReply (sink log : Change) (answer : Status) (r : Reply) : Type 0 where
+  pub output : Gets sink r.output
+  pub notes : Gets log r.notes
+  pub status : answer ≡ r.status
+
+-- parts of what the reply has
+pub record HasPart (sink log : Change) (r : Reply) : Type 0 where
+  pub output : GetsPrefix sink r.output
+  pub notes : GetsPrefix log r.notes
+
+-- the sink for the output failed: it has a part of the output, and the notes have nothing
+pub record OutFailed (told : Option Reply) (sink log : Change) : Type 0 where
+  pub cause : HasFailed sink
+  pub output : ForSome told (λ r. GetsProperPrefix sink r.output)
+  pub notes : GetsNothing log
+
+-- the sink for the notes failed, on the notes of the reply: the output is whole
+pub record NotesFailed (told : Option Reply) (sink log : Change) : Type 0 where
+  pub cause : HasFailed log
+  pub output : ForSome told (λ r. Gets sink r.output)
+  pub notes : ForSome told (λ r. GetsProperPrefix log r.notes)
+
+-- the sink for the notes failed, on the message that a read failed
+pub record UnreadNotesFailed (unread : List ℕ → Type 0) (sink log : Change) : Type 0 where
+  pub cause : HasFailed log
+  pub name : List ℕ
+  pub read : unread name
+  pub output : GetsNothing sink
+  pub notes : GetsProperPrefix log (message name problem.Unread)
+
+-- a read failed: nothing is written but its message
+pub record IsUnread (unread : List ℕ → Type 0) (sink log : Change) : Type 0 where
+  pub name : List ℕ
+  pub read : unread name
+  pub output : GetsNothing sink
+  pub notes : Gets log (message name problem.Unread)
+
+-- words and texts come to something, and where the reply to that is told, so much holds of it
+abbrev pub Answered : (Settled → Type 0) → Option (List ℕ) → (Reply → Type 0) → Type 0
+Answered settles input P = (s : Settled) × settles s × ForSome (reply s input) P
+
+-- a sink failed
+abbrev pub IsUnwritten : (Settled → Type 0) → Option (List ℕ) → (List ℕ → Type 0) → Change → Change → Type 0
+IsUnwritten settles input unread out notes =
+    ((s : Settled) × settles s × (OutFailed (reply s input) out notes ⊎ NotesFailed (reply s input) out notes))
+    ⊎ UnreadNotesFailed unread out notes
+
+-- there was no memory: nothing is written, or parts of the reply
+abbrev pub IsForgone : (Settled → Type 0) → Option (List ℕ) → Change → Change → Type 0
+IsForgone settles input out notes = (GetsNothing out × GetsNothing notes) ⊎ Answered settles input (HasPart out notes)
+
+-- a status that a reply has
+abbrev pub IsAnswer : Status → Type 0
+IsAnswer Done = Unit {0}
+IsAnswer (Refused number) = Unit {0}
+IsAnswer Usage = Unit {0}
+IsAnswer _ = ⊥
+
+abbrev pub Stands : (Settled → Type 0) → Option (List ℕ) → (List ℕ → Type 0) → Change → Change → Status → Type 0
+Stands settles input unread out notes Done = Answered settles input (IsReply out notes Done)
+Stands settles input unread out notes (Refused number) = Answered settles input (IsReply out notes (Refused number))
+Stands settles input unread out notes Usage = Answered settles input (IsReply out notes Usage)
+Stands settles input unread out notes ReadFault = IsUnread unread out notes
+Stands settles input unread out notes WriteFault = IsUnwritten settles input unread out notes
+Stands settles input unread out notes NoMemory = IsForgone settles input out notes
+
+-- a read of the input failed
+abbrev pub InputUnread : Type 0 → List ℕ → Type 0
+InputUnread input_rose name = (name ≡ codes "input") × input_rose
+
+-- what the notes get where a text does not serve
+abbrev pub StopTold : Change → List ℕ → TextStop → Status → Type 0
+StopTold log name UnreadText status = Told log.old log.new log.count log.new_count (message name problem.Unread) ReadFault status
+StopTold log name (RefusedText p) status = Told log.old log.new log.count log.new_count (message name p) (Refused (problem_number p)) status
+StopTold log name NoTextMemory status = (status ≡ NoMemory) × GetsNothing log

@@ -1,0 +1,129 @@
+-- What a text means, or why it is refused.
+use Rattle.std.specs.Prelude.{◌≡◌, ℕ, ◌<◌, ◌≤◌, List, length, Option, None, Some}
+use Rattle.sled_base.specs.declared.limits.TheConstants.{MAX_TEXT}
+use Rattle.sled_base.specs.declared.faults.TextFault.{TextFault}
+use Rattle.sled_base.specs.declared.faults.TextFault.TheVariants as load
+use Rattle.sled_lexer.specs.declared.Lexeme.{Lexeme}
+use Rattle.sled_lexer.specs.declared.LexFault.{LexFault}
+use Rattle.sled_lexer.specs.declared.LexFault.TheVariants as lex
+use Rattle.sled_lexer.specs.Lexemes.{Lexemes, InRange, IsLexFault}
+use Rattle.sled_parser.specs.declared.SyntaxFault.{SyntaxFault}
+use Rattle.sled_parser.specs.declared.SyntaxFault.TheVariants as syntax
+use Rattle.sled_parser.specs.declared.tree.Decl.{Decl}
+use Rattle.sled_parser.specs.declared.tree.MatchTree.{MatchTree}
+use Rattle.sled_parser.specs.Pieces.{Input, pieces}
+use Rattle.sled_parser.specs.Nesting.{nest_fault}
+use Rattle.sled_parser.specs.Declarations.{IsDescription}
+use Rattle.sled_parser.specs.Statements.{IsStatement}
+use Rattle.sled_model.specs.declared.spec.Spec.{Spec}
+use Rattle.sled_model.specs.declared.statement.Statement.{Statement}
+use Rattle.sled_elab.specs.declared.lack.Lack.{Lack}
+use Rattle.sled_elab.specs.declared.lack.Lack.TheVariants as lack
+use Rattle.sled_elab.specs.declared.lack.ElabFault.{ElabFault}
+use Rattle.sled_elab.specs.declared.lack.ElabFault.TheVariants as elab
+use Rattle.sled_elab.specs.Conditions.{description_lack, statement_lack}
+use Rattle.sled_elab.specs.Meaning.{spec_of, statement_of}
+use Rattle.toolkit_cli.specs.declared.messages.Unit.{Unit as Part}
+use Rattle.toolkit_cli.specs.declared.messages.Unit.TheVariants as part
+use Rattle.toolkit_cli.specs.declared.messages.Problem.{Problem}
+use Rattle.toolkit_cli.specs.declared.messages.Problem.TheVariants as problem
+use Rattle.toolkit_cli.specs.declared.texts.TextStop.{TextStop}
+use Rattle.toolkit_cli.specs.declared.texts.TextStop.TheVariants.{Unread, Refused, NoMemory}
+
+-- the text has these lexemes
+pub record IsLexed (text : List ℕ) (lexemes : List Lexeme) : Type 0 where
+  pub short : length text ≤ MAX_TEXT
+  pub listed : Lexemes text lexemes
+  pub range : InRange text lexemes
+
+-- the text is a sentence, and this is its tree
+pub record IsParsed {T : Type 0} (IsTree : Input → T → Type 0) (text : List ℕ) (tree : T) : Type 0 where
+  pub lexemes : List Lexeme
+  pub lexed : IsLexed text lexemes
+  pub shallow : nest_fault text lexemes ≡ None
+  pub reads : IsTree (pieces text lexemes) tree
+
+-- the text is no sentence
+pub record IsNoSentence {T : Type 0} (IsTree : Input → T → Type 0) (text : List ℕ) : Type 0 where
+  pub lexemes : List Lexeme
+  pub lexed : IsLexed text lexemes
+  pub shallow : nest_fault text lexemes ≡ None
+  pub none : (tree : T) → ¬ IsTree (pieces text lexemes) tree
+
+-- a bracket opens at that place inside too many others
+pub record NestsDeep (text : List ℕ) (place : ℕ) : Type 0 where
+  pub lexemes : List Lexeme
+  pub lexed : IsLexed text lexemes
+  pub deep : nest_fault text lexemes ≡ Some place
+
+-- the text is a sentence, and this is the first of its parts that lacks something
+pub record LacksAt {T : Type 0} (IsTree : Input → T → Type 0) (lacks : T → Option (ℕ × Lack)) (text : List ℕ) (number : ℕ) (what : Lack) : Type 0 where
+  pub tree : T
+  pub parsed : IsParsed IsTree text tree
+  pub lack : lacks tree ≡ Some (number, what)
+
+-- the text is refused so
+abbrev pub IsRefused : {T : Type 0} → (Input → T → Type 0) → (T → Option (ℕ × Lack)) → Part → List ℕ → Problem → Type 0
+IsRefused IsTree lacks unit text problem.TooLong = MAX_TEXT < length text
+IsRefused IsTree lacks unit text (problem.BadByte place) = (length text ≤ MAX_TEXT) × IsLexFault text (lex.BadByte place)
+IsRefused IsTree lacks unit text (problem.OpenText place) = (length text ≤ MAX_TEXT) × IsLexFault text (lex.OpenText place)
+IsRefused IsTree lacks unit text (problem.NumberTooBig place) = (length text ≤ MAX_TEXT) × IsLexFault text (lex.NumberTooBig place)
+IsRefused IsTree lacks unit text (problem.Nesting place) = NestsDeep text place
+IsRefused IsTree lacks unit text problem.Syntax = IsNoSentence IsTree text
+IsRefused IsTree lacks unit text (problem.Unmet what number condition) = (what ≡ unit) × LacksAt IsTree lacks text number (lack.Condition condition)
+IsRefused IsTree lacks unit text (problem.NotBuilt what number) = (what ≡ unit) × LacksAt IsTree lacks text number lack.NotBuilt
+IsRefused IsTree lacks unit text _ = ⊥
+
+-- ---- descriptions
+
+pub record IsDescribed (text : List ℕ) (spec : Spec) : Type 0 where
+  pub tree : List Decl
+  pub parsed : IsParsed IsDescription text tree
+  pub met : description_lack tree ≡ None
+  pub same : spec ≡ spec_of tree
+
+abbrev pub RefusesDescription : List ℕ → Problem → Type 0
+RefusesDescription text p = IsRefused IsDescription description_lack part.Declaration text p
+
+-- ---- statements over a description
+
+pub record IsStated (spec : Spec) (text : List ℕ) (statement : Statement) : Type 0 where
+  pub tree : MatchTree
+  pub parsed : IsParsed IsStatement text tree
+  pub met : statement_lack spec tree ≡ None
+  pub same : statement ≡ statement_of spec tree
+
+abbrev pub RefusesStatement : Spec → List ℕ → Problem → Type 0
+RefusesStatement spec text p = IsRefused IsStatement (statement_lack spec) part.Arm text p
+
+-- ---- what stops a text
+
+abbrev pub load_stop : TextFault → TextStop
+load_stop load.TooLong = Refused problem.TooLong
+load_stop load.Unread = Unread
+load_stop load.NoMemory = NoMemory
+
+abbrev pub lex_stop : LexFault → TextStop
+lex_stop (lex.BadByte place) = Refused (problem.BadByte place)
+lex_stop (lex.OpenText place) = Refused (problem.OpenText place)
+lex_stop (lex.NumberTooBig place) = Refused (problem.NumberTooBig place)
+lex_stop lex.NoMemory = NoMemory
+
+abbrev pub syntax_stop : SyntaxFault → TextStop
+syntax_stop (syntax.Nesting place) = Refused (problem.Nesting place)
+syntax_stop syntax.Syntax = Refused problem.Syntax
+syntax_stop syntax.NoMemory = NoMemory
+
+abbrev pub lack_problem : Part → ℕ → Lack → Problem
+lack_problem unit number (lack.Condition condition) = problem.Unmet unit number condition
+lack_problem unit number lack.NotBuilt = problem.NotBuilt unit number
+
+abbrev pub elab_stop : Part → ElabFault → TextStop
+elab_stop unit (elab.Lacks number what) = Refused (lack_problem unit number what)
+elab_stop unit elab.NoMemory = NoMemory
+
+-- a refusal has its cause
+abbrev pub Stops : (List ℕ → Problem → Type 0) → List ℕ → TextStop → Type 0
+Stops refuses text (Refused p) = refuses text p
+Stops refuses text Unread = Unit {0}
+Stops refuses text NoMemory = Unit {0}

@@ -1,0 +1,194 @@
+// The top call.
+ghost use Rattle.std.specs.Prelude.{◌≡◌, ◌⊎◌, ◌≢◌, ◌≤◌, ℕ, List, Option, None, Some, map, string_bytes};
+ghost use Rattle.std.specs.Option.{ForSome};
+ghost use Rattle.std.specs.Io.KnownBytes.{IsAtEnd};
+ghost use Rattle.sled_base.specs.Causes.{Rose};
+ghost use Rattle.sled_model.specs.OneToken.{IsOneTokenStatement};
+ghost use Rattle.toolkit_cli.specs.CommandWords.{command_words};
+ghost use Rattle.toolkit_cli.specs.Words.{words_of};
+ghost use Rattle.toolkit_cli.specs.Reply.{Settles, SettlesDis, accepted};
+ghost use Rattle.toolkit_cli.specs.Stands.{Stands, StopTold, InputUnread, Unread, UnreadByWords, Answered, IsAnswer, IsReply, IsUnread, IsUnwritten, IsForgone};
+
+use crate::messages::Problem;
+use crate::status::Status;
+use crate::texts::{TextStop, read_spec, read_statement, say, tell};
+use crate::words::{Command, command_of};
+use match_engine::{ListFault, list};
+use sled_base::{Shelf, Sink, Source};
+use sled_model::{Spec, Statement};
+use std::alloc::Global;
+
+const USAGE: &str = "usage: sledkit dis SPEC MATCH BASE\n";
+
+/// Does all that the program does.
+///
+/// The words are those behind the program's name. Texts are loaded from the shelf by the words, the image is read from `input`, the
+/// listing is written to `out`, and messages to `notes`.
+pub fn run<H: Shelf, I: Source, O: Sink, E: Sink>(
+    alloc: Global,
+    words: &[String],
+    shelf: &mut H,
+    input: &mut I,
+    out: &mut O,
+    notes: &mut E,
+) -> Status
+    // Done, Refused and Usage come only where output, notes and status are those of the reply to what words and texts come to.
+    ensures answered { IsAnswer result → Answered (Settles (words_of (map string_bytes words.now)) (H.text shelf.old)) (I.left input.old) (IsReply
+        (record { old = O.contents out.old; new = O.contents out.new; count = O.faults out.old; new_count = O.faults out.new })
+        (record { old = E.contents notes.old; new = E.contents notes.new; count = E.faults notes.old; new_count = E.faults notes.new })
+        result) }
+
+    // Where no count rose and there was memory, it is one of these.
+    ensures complete { ((name : List ℕ) → ¬ Rose (H.faults shelf.old name) (H.faults shelf.new name)) → ¬ Rose (I.faults input.old) (I.faults input.new)
+        → ¬ Rose (O.faults out.old) (O.faults out.new) → ¬ Rose (E.faults notes.old) (E.faults notes.new) → IsAnswer result ⊎ (result ≡ Status.NoMemory) }
+
+    // Usage, exactly where the words have no form.
+    ensures usage { result ≡ Status.Usage → words_of (map string_bytes words.now) ≡ None }
+    ensures no_form { words_of (map string_bytes words.now) ≡ None → (result ≡ Status.Usage) ⊎ ((result ≡ Status.WriteFault) ⊎ (result ≡ Status.NoMemory)) }
+
+    // A read failed: its name, its count, the texts before it, and nothing written but its message.
+    ensures read_fault { result ≡ Status.ReadFault → IsUnread
+        (UnreadByWords (words_of (map string_bytes words.now)) (H.text shelf.old)
+        (λ name. Rose (H.faults shelf.old name) (H.faults shelf.new name)) (Rose (I.faults input.old) (I.faults input.new)))
+        (record { old = O.contents out.old; new = O.contents out.new; count = O.faults out.old; new_count = O.faults out.new })
+        (record { old = E.contents notes.old; new = E.contents notes.new; count = E.faults notes.old; new_count = E.faults notes.new }) }
+
+    // A write failed: the count of out or of notes, and what each got.
+    ensures write_fault { result ≡ Status.WriteFault → IsUnwritten (Settles (words_of (map string_bytes words.now)) (H.text shelf.old)) (I.left input.old)
+        (UnreadByWords (words_of (map string_bytes words.now)) (H.text shelf.old)
+        (λ name. Rose (H.faults shelf.old name) (H.faults shelf.new name)) (Rose (I.faults input.old) (I.faults input.new)))
+        (record { old = O.contents out.old; new = O.contents out.new; count = O.faults out.old; new_count = O.faults out.new })
+        (record { old = E.contents notes.old; new = E.contents notes.new; count = E.faults notes.old; new_count = E.faults notes.new }) }
+
+    // There was no memory: nothing is written, or parts of the output and of the notes.
+    ensures no_memory { result ≡ Status.NoMemory → IsForgone (Settles (words_of (map string_bytes words.now)) (H.text shelf.old)) (I.left input.old)
+        (record { old = O.contents out.old; new = O.contents out.new; count = O.faults out.old; new_count = O.faults out.new })
+        (record { old = E.contents notes.old; new = E.contents notes.new; count = E.faults notes.old; new_count = E.faults notes.new }) }
+
+    ensures read_to_end { result ≡ Status.Done → IsAtEnd (I.left input.new) }
+
+    // The shelf is asked for SPEC and MATCH alone.
+    ensures others { (name : List ℕ) → ForSome (words_of (map string_bytes words.now)) (λ w. (name ≢ w.spec) × (name ≢ w.matching))
+        → H.faults shelf.new name ≡ H.faults shelf.old name }
+    ensures texts { (any : List ℕ) → H.text shelf.new any ≡ H.text shelf.old any }
+{
+    answer(alloc, words, shelf, input, out, notes)
+}
+
+// What stands after each status, in one clause.
+fn answer<H: Shelf, I: Source, O: Sink, E: Sink>(
+    alloc: Global,
+    words: &[String],
+    shelf: &mut H,
+    input: &mut I,
+    out: &mut O,
+    notes: &mut E,
+) -> Status
+    ensures stands { Stands (Settles (words_of (map string_bytes words.now)) (H.text shelf.old)) (I.left input.old)
+        (UnreadByWords (words_of (map string_bytes words.now)) (H.text shelf.old)
+        (λ name. Rose (H.faults shelf.old name) (H.faults shelf.new name)) (Rose (I.faults input.old) (I.faults input.new)))
+        (record { old = O.contents out.old; new = O.contents out.new; count = O.faults out.old; new_count = O.faults out.new })
+        (record { old = E.contents notes.old; new = E.contents notes.new; count = E.faults notes.old; new_count = E.faults notes.new })
+        result }
+    ensures usage { result ≡ Status.Usage → words_of (map string_bytes words.now) ≡ None }
+    ensures read_to_end { result ≡ Status.Done → IsAtEnd (I.left input.new) }
+    ensures others { (name : List ℕ) → ForSome (words_of (map string_bytes words.now)) (λ w. (name ≢ w.spec) × (name ≢ w.matching))
+        → H.faults shelf.new name ≡ H.faults shelf.old name }
+    ensures texts { (any : List ℕ) → H.text shelf.new any ≡ H.text shelf.old any }
+{
+    match command_of(words) {
+        None => say(USAGE.as_bytes(), Status::Usage, notes),
+        Some(command) => dis(alloc, &command, shelf, input, out, notes),
+    }
+}
+
+fn dis<H: Shelf, I: Source, O: Sink, E: Sink>(
+    alloc: Global,
+    command: &Command<'_>,
+    shelf: &mut H,
+    input: &mut I,
+    out: &mut O,
+    notes: &mut E,
+) -> Status
+    ensures stands { Stands (SettlesDis (command_words command.now) (H.text shelf.old)) (I.left input.old)
+        (Unread (command_words command.now) (H.text shelf.old)
+        (λ name. Rose (H.faults shelf.old name) (H.faults shelf.new name)) (Rose (I.faults input.old) (I.faults input.new)))
+        (record { old = O.contents out.old; new = O.contents out.new; count = O.faults out.old; new_count = O.faults out.new })
+        (record { old = E.contents notes.old; new = E.contents notes.new; count = E.faults notes.old; new_count = E.faults notes.new })
+        result }
+    ensures usage { result ≢ Status.Usage }
+    ensures read_to_end { result ≡ Status.Done → IsAtEnd (I.left input.new) }
+    ensures others { (name : List ℕ) → name ≢ command.now.spec.now → name ≢ command.now.matching.now → H.faults shelf.new name ≡ H.faults shelf.old name }
+    ensures texts { (any : List ℕ) → H.text shelf.new any ≡ H.text shelf.old any }
+{
+    let spec = match read_spec(alloc, shelf, command.spec) {
+        Ok(spec) => spec,
+        Err(stop) => return stopped(alloc, command.spec, stop, notes),
+    };
+    let statement = match read_statement(alloc, shelf, &spec, command.matching) {
+        Ok(statement) => statement,
+        Err(stop) => return stopped(alloc, command.matching, stop, notes),
+    };
+    listed(alloc, &spec, &statement, command.base, input, out, notes)
+}
+
+// What goes to the notes where a text does not serve.
+fn stopped<E: Sink>(alloc: Global, name: &str, stop: TextStop, notes: &mut E) -> Status
+    ensures told { StopTold (record { old = E.contents notes.old; new = E.contents notes.new; count = E.faults notes.old; new_count = E.faults notes.new })
+        name.now stop result }
+    ensures usage { result ≢ Status.Usage }
+    ensures done { result ≢ Status.Done }
+{
+    match stop {
+        TextStop::Unread => tell(alloc, name, Problem::Unread, Status::ReadFault, notes),
+        TextStop::Refused(problem) => tell(
+            alloc,
+            name,
+            problem,
+            Status::Refused(problem.number()),
+            notes,
+        ),
+        TextStop::NoMemory => Status::NoMemory,
+    }
+}
+
+// Lists the input, and says why it ends.
+fn listed<I: Source, O: Sink, E: Sink>(
+    alloc: Global,
+    spec: &Spec,
+    statement: &Statement,
+    base: u32,
+    input: &mut I,
+    out: &mut O,
+    notes: &mut E,
+) -> Status
+    requires { IsOneTokenStatement spec.now statement.now }
+    ensures stands { Stands (λ s. s ≡ accepted spec.now statement.now base) (I.left input.old)
+        (InputUnread (Rose (I.faults input.old) (I.faults input.new)))
+        (record { old = O.contents out.old; new = O.contents out.new; count = O.faults out.old; new_count = O.faults out.new })
+        (record { old = E.contents notes.old; new = E.contents notes.new; count = E.faults notes.old; new_count = E.faults notes.new })
+        result }
+    ensures usage { result ≢ Status.Usage }
+    ensures read_to_end { result ≡ Status.Done → IsAtEnd (I.left input.new) }
+{
+    match list(alloc, spec, statement, base, input, out) {
+        Ok(_) => Status::Done,
+        Err(ListFault::NoMatch(address)) => tell(
+            alloc,
+            "input",
+            Problem::NoMatch(address),
+            Status::Refused(9),
+            notes,
+        ),
+        Err(ListFault::AddressEnd(address)) => tell(
+            alloc,
+            "input",
+            Problem::AddressEnd(address),
+            Status::Refused(10),
+            notes,
+        ),
+        Err(ListFault::ReadFault) => tell(alloc, "input", Problem::Unread, Status::ReadFault, notes),
+        Err(ListFault::WriteFault) => Status::WriteFault,
+        Err(ListFault::NoMemory) => Status::NoMemory,
+    }
+}
