@@ -56,12 +56,6 @@ module _ (taking : Taking) (local : IsLocal taking) where
       (λ n text e within. let some = local.some place n (b ∷ bs) text e in
       (refl, enough (length bs) (length (drop n (b ∷ bs))) (place + n) (drop n (b ∷ bs)) (omega (arith, length-drop n (b ∷ bs))) (omega arith)))
 
-  -- behind the last address nothing is listed
-  pub listing-over : (place : ℕ) (bytes : List ℕ) → 0 < length bytes → 2 ^ 32 ≤ place → listing_by taking place bytes ≡ ended place (Some (AddressEnd place))
-  listing-over place [] some high = absurd (omega arith)
-  listing-over place (b ∷ bs) some high =
-      ap (λ t. cond t (ended place (Some (AddressEnd place))) (place_listing place (b ∷ bs) (taking place (b ∷ bs)) (places_from (length bs) taking))) (le-leb (2 ^ 32) place high)
-
   -- the bytes that are looked at, where more follow
   front-same : (k place n : ℕ) (bytes : List ℕ) → place ≤ 2 ^ 32 → 2 ^ 32 + 4 ≤ place + n → places_from k taking place (take n bytes) ≡ places_from k taking place bytes
   front-same zero place n bytes low far = refl

@@ -17,8 +17,8 @@ use Rattle.match_engine.specs.declared.listing.Stop.TheVariants.{NoMatch, Addres
 use Rattle.match_engine.specs.declared.listing.Lines.{Lines}
 use Rattle.match_engine.specs.Listing.{Listing, listing, listing_by, taken, ended, behind, line_text, place_listing, action_text}
 use Rattle.match_engine.specs.Lines.{action_words, followed, listed, IsWithin, GoesOn}
-use Rattle.match_engine.proofs.Places.{listing-place, listing-over}
-use Rattle.match_engine.proofs.Taken.{Fits, first_from-fits, simple_arms, taken-local, taken-arm, taken-none, action-words}
+use Rattle.match_engine.proofs.Places.{listing-place}
+use Rattle.match_engine.proofs.Taken.{Fits, first_from-fits, simple_arms, taken-local, taken-arm, action-words}
 
 -- the arm that was found, and what it says of the place
 pub record Chosen (spec : Spec) (statement : Statement) (bytes : List ℕ) (arm : Arm) (values : List ℕ) : Type 0 where
@@ -37,9 +37,9 @@ found_within arms k P (Some arm) e h = slice_get_within arms k arm e
 pub finds_within : (spec : Spec) (statement : Statement) (bytes : List ℕ) (k : ℕ) (values : List ℕ) → FindsSimply spec statement bytes (Some k) values → k < length statement.arms
 finds_within spec statement bytes k values h = found_within statement.arms k _ (slice_get statement.arms k) refl h
 
-pub chosen : (spec : Spec) (statement : Statement) (bytes : List ℕ) (k : ℕ) (arm : Arm) (values : List ℕ) → IsOneTokenStatement spec statement
+arm_chosen : (spec : Spec) (statement : Statement) (bytes : List ℕ) (k : ℕ) (arm : Arm) (values : List ℕ) → IsOneTokenStatement spec statement
     → FindsSimply spec statement bytes (Some k) values → arm ≡ get_or statement.arms k arm → Chosen spec statement bytes arm values
-chosen spec statement bytes k arm values one h at =
+arm_chosen spec statement bytes k arm values one h at =
     let within = finds_within spec statement bytes k values h in
     let arm_k : slice_get statement.arms k ≡ Some arm = slice_get-get_or statement.arms k arm within ∙ ap Some (sym at) in
     let is : IsOneTokenArm spec arm = subst (IsOneTokenArm spec) (sym at) (All-get_or (IsOneTokenArm spec) statement.arms k arm within one.arms) in
@@ -59,6 +59,10 @@ chosen spec statement bytes k arm values one h at =
           ∙ ap (λ text. Some (class_len spec.tokens class, text)) (action-words spec arm place values is.names found.1 is.action);
     }
 
+pub chosen : (spec : Spec) (statement : Statement) (bytes : List ℕ) (o : Option ℕ) (k : ℕ) (arms : List Arm) (arm : Arm) (values : List ℕ) → IsOneTokenStatement spec statement
+    → FindsSimply spec statement bytes o values → o ≡ Some k → arms ≡ statement.arms → arm ≡ get_or arms k arm → Chosen spec statement bytes arm values
+chosen spec statement bytes o k arms arm values one found is same item = arm_chosen spec statement bytes k arm values one (rw is at found) (rw same at item)
+
 -- the lines so far, where nothing follows
 pub followed-ended : (lines : Lines) (stop : Option Stop) → followed lines (ended lines.end stop) ≡ listed lines stop
 followed-ended lines stop = rw (append-nil, add-zero) refl
@@ -68,18 +72,6 @@ pub followed-behind : (old new : Lines) (line : List ℕ) (l : Listing) → new.
 followed-behind old new line l text places = rw (text, places, append_assoc, add_assoc) refl
 
 module _ (spec : Spec) (statement : Statement) (one : IsOneTokenStatement spec statement) (bytes : List ℕ) (some : 0 < length bytes) where
-  -- nothing matches
-  pub stops_unmatched : (lines : Lines) → lines.end < 2 ^ 32 → first spec statement bytes ≡ None → followed lines (listing spec statement lines.end bytes) ≡ listed lines (Some (NoMatch lines.end))
-  stops_unmatched lines low none =
-      ap (followed lines) (listing-place (taken spec statement) (taken-local spec statement one) lines.end bytes some low
-      ∙ ap (λ o. place_listing lines.end bytes o (listing_by (taken spec statement))) (taken-none spec statement one lines.end bytes none))
-      ∙ followed-ended lines (Some (NoMatch lines.end))
-
-  -- no address is left
-  pub stops_behind : (lines : Lines) → 2 ^ 32 ≤ lines.end → followed lines (listing spec statement lines.end bytes) ≡ listed lines (Some (AddressEnd lines.end))
-  stops_behind lines high =
-      ap (followed lines) (listing-over (taken spec statement) (taken-local spec statement one) lines.end bytes some high) ∙ followed-ended lines (Some (AddressEnd lines.end))
-
   module _ (arm : Arm) (values : List ℕ) (c : Chosen spec statement bytes arm values) where
     at_place : (place count : ℕ) → count ≡ class_len spec.tokens c.class → place < 2 ^ 32
         → listing spec statement place bytes ≡ place_listing place bytes (Some (count, action_words arm values)) (listing_by (taken spec statement))

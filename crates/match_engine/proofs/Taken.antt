@@ -100,9 +100,6 @@ module _ (spec : Spec) (statement : Statement) (one : IsOneTokenStatement spec s
       → taken spec statement place bytes ≡ Some (m.len, action_text spec arm place m.binds)
   taken-arm place bytes k m arm e at = ap (taken_by spec statement place bytes) e ∙ ap (option_map (arm_taken spec place m)) at
 
-  pub taken-none : (place : ℕ) (bytes : List ℕ) → first spec statement bytes ≡ None → taken spec statement place bytes ≡ None
-  taken-none place bytes e = ap (taken_by spec statement place bytes) e ∙ ap (option_map (skip_taken bytes)) one.skip
-
 -- the words of an action, by the values that were read
 module _ (spec : Spec) (arm : Arm) (place : ℕ) (values : List ℕ) (names : AreNamesOf spec (bare_fields arm.pattern) arm.names) (same : length values ≡ length (bare_fields arm.pattern)) where
   piece-words : (piece : Piece) → IsPieceOf (length arm.names) piece → piece_text spec arm place (value_entries (bare_fields arm.pattern) values) piece ≡ piece_words values piece

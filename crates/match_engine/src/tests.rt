@@ -1,30 +1,34 @@
 ghost use Rattle.std.specs.Prelude.{◌<◌, ◌≡◌, IfOk};
 ghost use Rattle.sled_model.specs.Tokens.{IsWidth};
-ghost use Rattle.sled_model.specs.OneToken.{IsOneTokenStatement};
+ghost use Rattle.match_engine.specs.Example.{op_and_v, op_is as op_term, load_and_stop as arms_of_two};
 
 use crate::{ListFault, Listed, list};
 use sled_base::{MemSink, MemSource, NoMemory};
 use sled_model::{
-    Arm, Class, Field, FieldId, Order, Pattern, Piece, Relation, Spec, Statement, Tokens,
+    Arm, Class, ClassId, Field, FieldId, Order, Pattern, Piece, Relation, Spec, Statement, Tokens,
 };
 use sqlite_items::Items;
 use std::alloc::Global;
 use std::test::Fail;
 
-/// A class of so many bits, with the fields `v` below the bit `split`, and `op` from it on.
-fn description(alloc: Global, width: u8, split: u8) -> Result<Spec, NoMemory> {
-    let mut tokens = Tokens::new(alloc);
-    let class = tokens.add_class(Class {
+fn description(alloc: Global, width: u8, split: u8) -> Result<Spec, NoMemory>
+    requires some { 0 < split }
+    requires within { split < width }
+    ensures { IfOk result (λ spec. spec ≡ op_and_v width split) }
+{
+    let mut classes = Items::new(alloc);
+    classes.push(Class {
         width,
         order: Order::Big,
     })?;
-    tokens.add_field(Field {
-        class,
+    let mut fields = Items::new(alloc);
+    fields.push(Field {
+        class: ClassId(0),
         lo: split,
         hi: width - 1,
     })?;
-    tokens.add_field(Field {
-        class,
+    fields.push(Field {
+        class: ClassId(0),
         lo: 0,
         hi: split - 1,
     })?;
@@ -32,14 +36,16 @@ fn description(alloc: Global, width: u8, split: u8) -> Result<Spec, NoMemory> {
     field_names.push(Items::from_slice(alloc, b"op")?)?;
     field_names.push(Items::from_slice(alloc, b"v")?)?;
     Ok(Spec {
-        tokens,
+        tokens: Tokens { classes, fields },
         class_names: Items::new(alloc),
         field_names,
         constructors: Items::new(alloc),
     })
 }
 
-fn op_is(value: u32) -> Pattern {
+fn op_is(value: u32) -> Pattern
+    ensures { result ≡ op_term value }
+{
     Pattern::Limit {
         field: FieldId(0),
         relation: Relation::Equal,
@@ -48,7 +54,9 @@ fn op_is(value: u32) -> Pattern {
 }
 
 /// `op = 1 & v => "load {v}"` and `op = 2 => "stop"`
-fn load_and_stop(alloc: Global) -> Result<Statement, NoMemory> {
+fn load_and_stop(alloc: Global) -> Result<Statement, NoMemory>
+    ensures { IfOk result (λ statement. statement ≡ arms_of_two) }
+{
     let mut terms = Items::new(alloc);
     terms.push(op_is(1))?;
     terms.push(Pattern::Bind(FieldId(1)))?;
@@ -80,7 +88,11 @@ fn run(
     split: u8,
     base: u32,
     bytes: &[u8],
-) -> Result<(Result<Listed, ListFault>, Vec<u8>), NoMemory> {
+) -> Result<(Result<Listed, ListFault>, Vec<u8>), NoMemory>
+    requires width { IsWidth width }
+    requires some { 0 < split }
+    requires within { split < width }
+{
     let spec = description(alloc, width, split)?;
     let statement = load_and_stop(alloc)?;
     let mut source = MemSource::new(alloc, bytes, &[])?;
