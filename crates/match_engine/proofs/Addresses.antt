@@ -1,5 +1,5 @@
 -- What a format with eight digits writes.
-use Rattle.std.proofs.Common.{◌≡◌, ◌^◌, ◌-◌, List, [], ℕ, ◌++◌, length, replicate, false, refl, append-nil, arith}
+use Rattle.std.proofs.Common.{◌≡◌, ◌^◌, ◌-◌, List, [], ℕ, length, false, append-nil, arith}
 use Rattle.std.specs.Fmt.{padded_integral, format_spec, char_count}
 use Rattle.match_engine.specs.Listing.{to_eight}
 

@@ -1,9 +1,9 @@
 -- Listings from place to place.
-use Rattle.std.proofs.Common.{◌≡◌, ℕ, zero, suc, ◌+◌, ◌-◌, ◌^◌, ◌<◌, ◌≤◌, ◌⊎◌, inl, inr, Bool, true, false, cond, leb, ltb, List, [], ◌∷◌, ◌++◌, length, take, drop, Option, Some, None, refl, sym, ap, ◌∙◌, arith}
-use Rattle.std.proofs.lemmas.Bool.{le-leb, lt-leb, le-ltb, lt-ltb, cases_lt, cases_Bool, leb-false, ltb-false}
+use Rattle.std.proofs.Common.{◌≡◌, ℕ, zero, suc, ◌+◌, ◌-◌, ◌^◌, ◌<◌, ◌≤◌, ◌⊎◌, inl, inr, cond, leb, List, [], ◌∷◌, length, take, drop, Option, Some, None, refl, ap, ◌∙◌, arith}
+use Rattle.std.proofs.lemmas.Bool.{le-leb, lt-leb, le-ltb, lt-ltb, cases_lt}
 use Rattle.std.proofs.lemmas.List.{length-drop, length-take, take-take, drop-take}
-use Rattle.match_engine.specs.declared.listing.Stop.TheVariants.{NoMatch, AddressEnd}
-use Rattle.match_engine.specs.Listing.{Listing, Taking, ended, behind, line_text, place_listing, places_from, listing_by}
+use Rattle.match_engine.specs.declared.listing.Stop.TheVariants.{AddressEnd}
+use Rattle.match_engine.specs.Listing.{Listing, Taking, ended, place_listing, places_from, listing_by}
 
 -- what stands at a place takes a byte at least, and no more than there are, and four bytes decide what it is
 pub record IsLocal (taking : Taking) : Type 0 where

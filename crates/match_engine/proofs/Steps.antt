@@ -1,5 +1,5 @@
 -- One place more.
-use Rattle.std.proofs.Common.{◌≡◌, ℕ, ◌+◌, ◌-◌, ◌^◌, ◌<◌, ◌≤◌, List, [], ◌∷◌, ◌++◌, length, take, drop, get_or, slice_get, Option, Some, None, refl, sym, ap, ◌∙◌, subst, append_assoc, append-nil, add_assoc, add-zero, arith}
+use Rattle.std.proofs.Common.{◌≡◌, ℕ, ◌+◌, ◌^◌, ◌<◌, ◌≤◌, List, ◌++◌, length, take, drop, get_or, slice_get, Option, Some, None, refl, sym, ap, ◌∙◌, subst, append_assoc, append-nil, add_assoc, add-zero, arith}
 use Rattle.std.specs.Option.{IsSomeAnd}
 use Rattle.std.proofs.lemmas.Bool.{le-ltb, lt-ltb}
 use Rattle.std.proofs.lemmas.Option.{slice_get_within, slice_get-get_or}
@@ -8,14 +8,13 @@ use Rattle.sled_model.specs.declared.tokens.ClassId.{ClassId}
 use Rattle.sled_model.specs.declared.spec.Spec.{Spec}
 use Rattle.sled_model.specs.declared.statement.Arm.{Arm}
 use Rattle.sled_model.specs.declared.statement.Statement.{Statement}
-use Rattle.sled_model.specs.First.{first}
-use Rattle.sled_model.specs.Simple.{IsSimple, FindsSimply, simple_match, class_len, bare_fields, value_entries}
+use Rattle.sled_model.specs.Simple.{IsSimple, FindsSimply, simple_match, class_len}
 use Rattle.sled_model.specs.OneToken.{IsOneTokenArm, IsOneTokenStatement}
 use Rattle.sled_model.proofs.Front.{class_len-most}
 use Rattle.match_engine.specs.declared.listing.Stop.{Stop}
-use Rattle.match_engine.specs.declared.listing.Stop.TheVariants.{NoMatch, AddressEnd}
+use Rattle.match_engine.specs.declared.listing.Stop.TheVariants.{AddressEnd}
 use Rattle.match_engine.specs.declared.listing.Lines.{Lines}
-use Rattle.match_engine.specs.Listing.{Listing, listing, listing_by, taken, ended, behind, line_text, place_listing, action_text}
+use Rattle.match_engine.specs.Listing.{Listing, listing, listing_by, taken, ended, behind, line_text, place_listing}
 use Rattle.match_engine.specs.Lines.{action_words, followed, listed, IsWithin, GoesOn}
 use Rattle.match_engine.proofs.Places.{listing-place}
 use Rattle.match_engine.proofs.Taken.{Fits, first_from-fits, simple_arms, taken-local, taken-arm, action-words}

@@ -1,12 +1,11 @@
 -- What stands at a place by a statement whose arms are each of one token.
-use Rattle.std.proofs.Common.{◌≡◌, ℕ, ◌+◌, ◌/◌, ◌<◌, ◌≤◌, ◌⊎◌, inl, inr, Bool, true, false, cond, List, [], ◌∷◌, ◌++◌, length, take, map, get_or, decimal, slice_get, All, Option, Some, None, refl, sym, ap, ◌∙◌, subst, arith}
+use Rattle.std.proofs.Common.{◌≡◌, ℕ, ◌+◌, ◌/◌, ◌<◌, ◌≤◌, inl, inr, Bool, true, false, cond, List, [], ◌∷◌, ◌++◌, length, take, get_or, decimal, slice_get, All, Option, Some, None, refl, sym, ap, ◌∙◌, subst, arith}
 use Rattle.std.specs.List.{flat_map, list_all}
 use Rattle.std.specs.Option.{option_map, option_map_or}
 use Rattle.std.proofs.lemmas.List.{length-map}
 use Rattle.std.proofs.lemmas.List.Elements.{All-nil, All-cons, All-head, All-tail, All-weaker}
-use Rattle.std.proofs.lemmas.Option.{slice_get-get_or, slice_get_within}
+use Rattle.std.proofs.lemmas.Option.{slice_get-get_or}
 use Rattle.sled_model.specs.declared.tokens.Class.{Class}
-use Rattle.sled_model.specs.declared.tokens.ClassId.{ClassId}
 use Rattle.sled_model.specs.declared.raw.Match.{Match}
 use Rattle.sled_model.specs.declared.raw.RawEntry.{RawEntry}
 use Rattle.sled_model.specs.declared.spec.Spec.{Spec}
@@ -15,15 +14,15 @@ use Rattle.sled_model.specs.declared.statement.Piece.{Piece}
 use Rattle.sled_model.specs.declared.statement.Piece.TheVariants.{Words, Bound}
 use Rattle.sled_model.specs.declared.statement.Statement.{Statement}
 use Rattle.sled_model.specs.Tokens.{token, byte_count, AreTokens, IsWidth}
-use Rattle.sled_model.specs.Results.{results, results_from, one_match, arm_context, arm_results}
-use Rattle.sled_model.specs.First.{first, first_from, first_or, name_value}
-use Rattle.sled_model.specs.Simple.{IsSimple, IsSimpleArm, AreNamesOf, simple_match, bare_fields, value_entries, class_len, terms_of, term_holds}
+use Rattle.sled_model.specs.Results.{one_match, arm_context, arm_results}
+use Rattle.sled_model.specs.First.{first, first_from, first_or}
+use Rattle.sled_model.specs.Simple.{IsSimpleArm, AreNamesOf, bare_fields, value_entries, terms_of, term_holds}
 use Rattle.sled_model.specs.OneToken.{IsOneTokenArm, IsOneTokenStatement, IsPieceOf}
-use Rattle.sled_model.proofs.SimpleLemmas.{simple_class, class_len-known, results_by_token, All-slice_get}
+use Rattle.sled_model.proofs.SimpleLemmas.{simple_class, results_by_token, All-slice_get}
 use Rattle.sled_model.proofs.TokensWithin.{token_within}
 use Rattle.sled_model.proofs.Front.{first_from-front}
 use Rattle.sled_model.proofs.NameValues.{name_value-simple}
-use Rattle.match_engine.specs.Listing.{piece_text, action_text, arm_taken, skip_taken, taken_by, taken}
+use Rattle.match_engine.specs.Listing.{piece_text, action_text, arm_taken, taken_by, taken}
 use Rattle.match_engine.specs.Lines.{piece_words, action_words}
 use Rattle.match_engine.proofs.Places.{IsLocal}
 

@@ -1,5 +1,5 @@
 -- A description and a statement for the tests.
-use Rattle.std.specs.Prelude.{ℕ, ◌-◌, List, [], ◌∷◌, codes, None}
+use Rattle.std.specs.Prelude.{ℕ, ◌-◌, [], ◌∷◌, codes, None}
 use Rattle.sled_model.specs.declared.tokens.Order.TheVariants.{Big}
 use Rattle.sled_model.specs.declared.pattern.Relation.TheVariants.{Equal}
 use Rattle.sled_model.specs.declared.pattern.Pattern.{Pattern}

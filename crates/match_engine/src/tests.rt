@@ -11,6 +11,7 @@ use sqlite_items::Items;
 use std::alloc::Global;
 use std::test::Fail;
 
+/// A class of so many bits, with the field `op` from the bit `split` on, and `v` below it.
 fn description(alloc: Global, width: u8, split: u8) -> Result<Spec, NoMemory>
     requires some { 0 < split }
     requires within { split < width }

@@ -1,6 +1,5 @@
-use Rattle.std.proofs.Common.{◌≡◌, Some, None, length, refl, arith, ap, sym, ◌∙◌}
+use Rattle.std.proofs.Common.{None, length, arith, ap}
 use Rattle.match_engine.specs.Listing.{Listing}
-use Rattle.match_engine.specs.Lines.{listed}
 use Rattle.match_engine.proofs.Images.{made_of_all, held_less, wrote, wrote_part, stopped}
 use Rattle.match_engine.proofs.image.list.Goals as goal
 

@@ -2,7 +2,7 @@ use Rattle.std.proofs.Common.{sym, subst}
 use Rattle.sled_model.specs.declared.spec.Spec.{Spec}
 use Rattle.sled_model.specs.declared.statement.Statement.{Statement}
 use Rattle.sled_model.specs.OneToken.{IsOneTokenStatement}
-use Rattle.match_engine.specs.Example.{op_and_v, load_and_stop}
+use Rattle.match_engine.specs.Example.{op_and_v}
 use Rattle.match_engine.proofs.Worked.{load_and_stop-one}
 use Rattle.match_engine.proofs.tests.run.Goals as goal
 

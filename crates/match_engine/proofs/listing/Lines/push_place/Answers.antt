@@ -1,4 +1,4 @@
-use Rattle.std.proofs.Common.{◌≡◌, ◌+◌, ◌*◌, ◌<◌, ◌≤◌, ◌^◌, length, take, refl, sym, ap, ◌∙◌, arith, length-take}
+use Rattle.std.proofs.Common.{length, refl, ap, arith, length-take}
 use Rattle.match_engine.proofs.Taken.{simple_arms}
 use Rattle.match_engine.proofs.Steps.{finds_within, chosen, stops_over, goes_on_behind}
 use Rattle.match_engine.proofs.listing.Lines.push_place.Goals as goal
