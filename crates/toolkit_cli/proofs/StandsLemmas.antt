@@ -9,7 +9,7 @@ use Rattle.sled_base.specs.Contents.{AppendsProperPrefix}
 use Rattle.sled_model.specs.declared.spec.Spec.{Spec}
 use Rattle.sled_model.specs.declared.statement.Statement.{Statement}
 use Rattle.match_engine.specs.declared.listing.Stop.{Stop}
-use Rattle.match_engine.specs.Listing.{Listing, listing}
+use Rattle.match_engine.specs.Listing.{listing}
 use Rattle.match_engine.specs.Listed.{WroteListing}
 use Rattle.toolkit_cli.specs.declared.status.Status.{Status}
 use Rattle.toolkit_cli.specs.declared.status.Status.TheVariants.{Done, Refused, Usage, ReadFault, WriteFault, NoMemory}
@@ -19,9 +19,9 @@ use Rattle.toolkit_cli.specs.declared.texts.TextStop.{TextStop}
 use Rattle.toolkit_cli.specs.declared.texts.TextStop.TheVariants.{Unread as UnreadText, Refused as RefusedText, NoMemory as NoTextMemory}
 use Rattle.toolkit_cli.specs.Words.{Words}
 use Rattle.toolkit_cli.specs.Messages.{message, problem_number, usage_text}
-use Rattle.toolkit_cli.specs.Reply.{Settled, no_form, refused_text, accepted, Settles, SettlesDis, Reply, reply, refused, listing_reply, listed_reply, stop_problem, usage_reply}
+use Rattle.toolkit_cli.specs.Reply.{Settled, Shelved, no_form, refused_text, accepted, Settles, Reply, reply, refused, listing_reply, listed_reply, stop_problem, usage_reply}
 use Rattle.toolkit_cli.specs.Told.{Told}
-use Rattle.toolkit_cli.specs.Stands.{Change, HasFailed, Gets, GetsPrefix, GetsNothing, IsReply, OutFailed, NotesFailed, UnreadNotesFailed, IsUnread, HasPart, IsAnswer, Answered, IsUnwritten, IsForgone, Stands, StopTold, Unread, UnreadByWords, InputUnread}
+use Rattle.toolkit_cli.specs.Stands.{Change, HasFailed, Gets, GetsPrefix, GetsNothing, IsReply, OutFailed, NotesFailed, IsAnswer, Answered, IsUnwritten, Stands, StopTold, UnreadByWords}
 
 -- a count that rose later has risen
 pub Rose-later : (a b c : ℕ) → a ≤ b → Rose b c → Rose a c
@@ -68,15 +68,23 @@ pub told_stands : (settles : Settled → Type 0) (input : Option (List ℕ)) (un
     → ForSome (reply s input) (HasOutput sink note wanted) → Told log.old log.new log.count log.new_count note wanted status → Stands settles input unread sink log status
 told_stands settles input unread sink log note wanted status s is so has (inl h) =
     subst (λ (a : Status). Stands settles input unread sink log a) (sym h.0) (answer_stands settles input unread sink log note wanted s is so has h.1)
-told_stands settles input unread sink log note wanted status s is so has (inr (inl h)) = subst (λ (a : Status). Stands settles input unread sink log a) (sym h.0) (inl (s, so, inr (record {
-  cause = h.1;
-  output = λ r e. (has r e).output;
-  notes = λ r e. subst (λ (b : List ℕ). AppendsProperPrefix log.old log.new b) (sym (has r e).text) h.2;
-})))
-told_stands settles input unread sink log note wanted status s is so has (inr (inr h)) = subst (λ (a : Status). Stands settles input unread sink log a) (sym h.0) (inr (s, so, λ r e. record {
-  output = GetsPrefix-all sink r.output (has r e).output;
-  notes = GetsPrefix-none log r.notes h.1;
-}))
+told_stands settles input unread sink log note wanted status s is so has (inr (inl h)) = subst (λ (a : Status). Stands settles input unread sink log a) (sym h.0) (inl (
+  s,
+  so,
+  inr (record {
+    cause = h.1;
+    output = λ r e. (has r e).output;
+    notes = λ r e. subst (λ (b : List ℕ). AppendsProperPrefix log.old log.new b) (sym (has r e).text) h.2;
+  }),
+))
+told_stands settles input unread sink log note wanted status s is so has (inr (inr h)) = subst (λ (a : Status). Stands settles input unread sink log a) (sym h.0) (inr (
+  s,
+  so,
+  λ r e. record {
+    output = GetsPrefix-all sink r.output (has r e).output;
+    notes = GetsPrefix-none log r.notes h.1;
+  },
+))
 
 -- the message that a read failed
 pub unread_stands : (settles : Settled → Type 0) (input : Option (List ℕ)) (unread : List ℕ → Type 0) (sink log : Change) (name : List ℕ) (status : Status) → unread name → GetsNothing sink
@@ -172,10 +180,10 @@ usage_output sink input kept r e =
     subst (λ (x : Reply). HasOutput sink usage_text Usage x) same (record { output = Gets-nothing sink kept; text = refl; answer = refl })
 
 -- what the words ask for decides
-pub by_words : (asked form : Option Words) (texts : List ℕ → Option (List ℕ)) (input : Option (List ℕ)) (shelf_rose : List ℕ → Type 0) (input_rose : Type 0) (sink log : Change) (status : Status) → asked ≡ form
-    → Stands (Settles form texts) input (UnreadByWords form texts shelf_rose input_rose) sink log status → Stands (Settles asked texts) input (UnreadByWords asked texts shelf_rose input_rose) sink log status
-by_words asked form texts input shelf_rose input_rose sink log status e h =
-    subst (λ (w : Option Words). Stands (Settles w texts) input (UnreadByWords w texts shelf_rose input_rose) sink log status) (sym e) h
+pub by_words : (asked form : Option Words) (shelf : Shelved) (input : Option (List ℕ)) (shelf_rose : List ℕ → Type 0) (input_rose : Type 0) (sink log : Change) (status : Status) → asked ≡ form
+    → Stands (Settles form shelf) input (UnreadByWords form shelf shelf_rose input_rose) sink log status → Stands (Settles asked shelf) input (UnreadByWords asked shelf shelf_rose input_rose) sink log status
+by_words asked form shelf input shelf_rose input_rose sink log status e h =
+    subst (λ (w : Option Words). Stands (Settles w shelf) input (UnreadByWords w shelf shelf_rose input_rose) sink log status) (sym e) h
 
 -- ---- each status by itself
 
@@ -189,12 +197,12 @@ stands_answer settles input unread sink log WriteFault is h = absurd is
 stands_answer settles input unread sink log NoMemory is h = absurd is
 
 -- no read failed where no count rose
-pub none_unread : (asked : Option Words) (texts : List ℕ → Option (List ℕ)) (shelf_rose : List ℕ → Type 0) (input_rose : Type 0) → ((name : List ℕ) → ¬ shelf_rose name) → ¬ input_rose
-    → (name : List ℕ) → ¬ UnreadByWords asked texts shelf_rose input_rose name
-none_unread None texts shelf_rose input_rose shelf input name h = h
-none_unread (Some words) texts shelf_rose input_rose shelf input name (inl h) = shelf words.spec h.1
-none_unread (Some words) texts shelf_rose input_rose shelf input name (inr (inl h)) = shelf words.matching h.2
-none_unread (Some words) texts shelf_rose input_rose shelf input name (inr (inr h)) = input h.2
+pub none_unread : (asked : Option Words) (shelf : Shelved) (shelf_rose : List ℕ → Type 0) (input_rose : Type 0) → ((name : List ℕ) → ¬ shelf_rose name) → ¬ input_rose
+    → (name : List ℕ) → ¬ UnreadByWords asked shelf shelf_rose input_rose name
+none_unread None shelf shelf_rose input_rose loads reads name h = h
+none_unread (Some words) shelf shelf_rose input_rose loads reads name (inl h) = loads words.spec h.1
+none_unread (Some words) shelf shelf_rose input_rose loads reads name (inr (inl h)) = loads words.matching h.2
+none_unread (Some words) shelf shelf_rose input_rose loads reads name (inr (inr h)) = reads h.2
 
 unwritten_rose : (settles : Settled → Type 0) (input : Option (List ℕ)) (unread : List ℕ → Type 0) (sink log : Change) → IsUnwritten settles input unread sink log → ¬ HasFailed sink → ¬ HasFailed log → ⊥
 unwritten_rose settles input unread sink log (inl h) out notes = by_part h.2 where
@@ -214,17 +222,17 @@ stands_complete settles input unread sink log WriteFault unasked out notes h = a
 stands_complete settles input unread sink log NoMemory unasked out notes h = inr refl
 
 -- no form: the usage text, a failed write of it, or no memory
-pub stands_no_form : (asked : Option Words) (texts : List ℕ → Option (List ℕ)) (input : Option (List ℕ)) (shelf_rose : List ℕ → Type 0) (input_rose : Type 0) (sink log : Change) (status : Status) → asked ≡ None
-    → Stands (Settles asked texts) input (UnreadByWords asked texts shelf_rose input_rose) sink log status → (status ≡ Usage) ⊎ ((status ≡ WriteFault) ⊎ (status ≡ NoMemory))
-stands_no_form asked texts input shelf_rose input_rose sink log status e h =
-    formless status (subst (λ (w : Option Words). Stands (Settles w texts) input (UnreadByWords w texts shelf_rose input_rose) sink log status) e h) where
-  usage_status : (answer : Status) (s : Settled) → s ≡ no_form → ForSome (reply s input) (IsReply sink log answer) → answer ≡ Usage
-  usage_status answer s is h = (subst (λ (x : Settled). ForSome (reply x input) (IsReply sink log answer)) is h usage_reply refl).status
+pub stands_no_form : (asked : Option Words) (shelf : Shelved) (input : Option (List ℕ)) (shelf_rose : List ℕ → Type 0) (input_rose : Type 0) (sink log : Change) (status : Status) → asked ≡ None
+    → Stands (Settles asked shelf) input (UnreadByWords asked shelf shelf_rose input_rose) sink log status → (status ≡ Usage) ⊎ ((status ≡ WriteFault) ⊎ (status ≡ NoMemory))
+stands_no_form asked shelf input shelf_rose input_rose sink log status e h =
+    formless status (subst (λ (w : Option Words). Stands (Settles w shelf) input (UnreadByWords w shelf shelf_rose input_rose) sink log status) e h) where
+      usage_status : (answer : Status) (s : Settled) → s ≡ no_form → ForSome (reply s input) (IsReply sink log answer) → answer ≡ Usage
+      usage_status answer s is h = (subst (λ (x : Settled). ForSome (reply x input) (IsReply sink log answer)) is h usage_reply refl).status
 
-  formless : (status : Status) → Stands (λ s. s ≡ no_form) input (UnreadByWords None texts shelf_rose input_rose) sink log status → (status ≡ Usage) ⊎ ((status ≡ WriteFault) ⊎ (status ≡ NoMemory))
-  formless Done h = inl (usage_status Done h.0 h.1 h.2)
-  formless (Refused number) h = inl (usage_status (Refused number) h.0 h.1 h.2)
-  formless Usage h = inl refl
-  formless ReadFault h = absurd h.read
-  formless WriteFault h = inr (inl refl)
-  formless NoMemory h = inr (inr refl)
+      formless : (status : Status) → Stands (λ s. s ≡ no_form) input (UnreadByWords None shelf shelf_rose input_rose) sink log status → (status ≡ Usage) ⊎ ((status ≡ WriteFault) ⊎ (status ≡ NoMemory))
+      formless Done h = inl (usage_status Done h.0 h.1 h.2)
+      formless (Refused number) h = inl (usage_status (Refused number) h.0 h.1 h.2)
+      formless Usage h = inl refl
+      formless ReadFault h = absurd h.read
+      formless WriteFault h = inr (inl refl)
+      formless NoMemory h = inr (inr refl)

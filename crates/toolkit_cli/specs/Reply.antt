@@ -1,5 +1,5 @@
 -- What the words and the texts come to, and what a run then writes and answers where no call of the outside fails.
-use Rattle.std.specs.Prelude.{◌≡◌, ◌⊎◌, ℕ, List, [], Option, None, Some, option_map, codes}
+use Rattle.std.specs.Prelude.{◌≡◌, ◌⊎◌, ℕ, Bool, false, List, [], Option, None, Some, option_map, codes}
 use Rattle.std.specs.Option.{ForSome}
 use Rattle.sled_model.specs.declared.spec.Spec.{Spec}
 use Rattle.sled_model.specs.declared.statement.Statement.{Statement}
@@ -21,29 +21,38 @@ pub data Settled : Type 0 where
   refused_text : List ℕ → Problem → Settled
   accepted : Spec → Statement → ℕ → Settled
 
--- the text of SPEC, as far as it is told, makes this description
-abbrev pub MakesSpec : Words → (List ℕ → Option (List ℕ)) → Spec → Type 0
-MakesSpec words texts spec = ForSome (texts words.spec) (λ t. IsDescribed t spec)
+-- what a shelf tells of each name: its text, or that there is none
+pub record Shelved : Type 0 where
+  pub text : List ℕ → Option (List ℕ)
+  pub lacks : List ℕ → Bool
+
+-- there is a text of that name, and where it is told so much holds of it
+abbrev pub IsThere : Shelved → List ℕ → (List ℕ → Type 0) → Type 0
+IsThere shelf name P = (shelf.lacks name ≡ false) × ForSome (shelf.text name) P
+
+-- the text of SPEC makes this description
+abbrev pub MakesSpec : Words → Shelved → Spec → Type 0
+MakesSpec words shelf spec = IsThere shelf words.spec (λ t. IsDescribed t spec)
 
 -- and that of MATCH makes this statement
-abbrev pub MakesStatement : Words → (List ℕ → Option (List ℕ)) → Spec → Statement → Type 0
-MakesStatement words texts spec statement = ForSome (texts words.matching) (λ t. IsStated spec t statement)
+abbrev pub MakesStatement : Words → Shelved → Spec → Statement → Type 0
+MakesStatement words shelf spec statement = IsThere shelf words.matching (λ t. IsStated spec t statement)
 
 -- SPEC is refused, or MATCH is refused over what SPEC makes
-abbrev pub RefusesText : Words → (List ℕ → Option (List ℕ)) → List ℕ → Problem → Type 0
-RefusesText words texts name p =
-    ((name ≡ words.spec) × ForSome (texts words.spec) (λ t. RefusesDescription t p))
-    ⊎ ((name ≡ words.matching) × ((spec : Spec) × MakesSpec words texts spec × ForSome (texts words.matching) (λ t. RefusesStatement spec t p)))
+abbrev pub RefusesText : Words → Shelved → List ℕ → Problem → Type 0
+RefusesText words shelf name p =
+    ((name ≡ words.spec) × IsThere shelf words.spec (λ t. RefusesDescription t p))
+    ⊎ ((name ≡ words.matching) × ((spec : Spec) × MakesSpec words shelf spec × IsThere shelf words.matching (λ t. RefusesStatement spec t p)))
 
-abbrev pub SettlesDis : Words → (List ℕ → Option (List ℕ)) → Settled → Type 0
-SettlesDis words texts no_form = ⊥
-SettlesDis words texts (refused_text name p) = RefusesText words texts name p
-SettlesDis words texts (accepted spec statement base) = (base ≡ words.base) × MakesSpec words texts spec × MakesStatement words texts spec statement
+abbrev pub SettlesDis : Words → Shelved → Settled → Type 0
+SettlesDis words shelf no_form = ⊥
+SettlesDis words shelf (refused_text name p) = RefusesText words shelf name p
+SettlesDis words shelf (accepted spec statement base) = (base ≡ words.base) × MakesSpec words shelf spec × MakesStatement words shelf spec statement
 
--- what the words and the texts come to, as far as the texts are told
-abbrev pub Settles : Option Words → (List ℕ → Option (List ℕ)) → Settled → Type 0
-Settles None texts s = s ≡ no_form
-Settles (Some words) texts s = SettlesDis words texts s
+-- what the words and the texts come to
+abbrev pub Settles : Option Words → Shelved → Settled → Type 0
+Settles None shelf s = s ≡ no_form
+Settles (Some words) shelf s = SettlesDis words shelf s
 
 -- ---- what is written and answered
 

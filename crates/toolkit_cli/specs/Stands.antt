@@ -6,7 +6,6 @@ use Rattle.sled_base.specs.Causes.{Rose}
 use Rattle.sled_base.specs.Contents.{AppendsProperPrefix}
 use Rattle.sled_model.specs.declared.spec.Spec.{Spec}
 use Rattle.sled_model.specs.declared.statement.Statement.{Statement}
-use Rattle.toolkit_cli.specs.declared.messages.Problem.{Problem}
 use Rattle.toolkit_cli.specs.declared.messages.Problem.TheVariants as problem
 use Rattle.toolkit_cli.specs.declared.status.Status.{Status}
 use Rattle.toolkit_cli.specs.declared.status.Status.TheVariants.{Done, Refused, Usage, ReadFault, WriteFault, NoMemory}
@@ -14,7 +13,7 @@ use Rattle.toolkit_cli.specs.declared.texts.TextStop.{TextStop}
 use Rattle.toolkit_cli.specs.declared.texts.TextStop.TheVariants.{Unread as UnreadText, Refused as RefusedText, NoMemory as NoTextMemory}
 use Rattle.toolkit_cli.specs.Words.{Words}
 use Rattle.toolkit_cli.specs.Messages.{message, problem_number}
-use Rattle.toolkit_cli.specs.Reply.{Settled, Reply, reply, MakesSpec, MakesStatement}
+use Rattle.toolkit_cli.specs.Reply.{Settled, Shelved, Reply, reply, MakesSpec, MakesStatement}
 use Rattle.toolkit_cli.specs.Told.{Told}
 
 -- what a sink went through: its contents, where they are told, and its count of faults
@@ -46,23 +45,23 @@ GetsNothing s = Keeps s.old s.new
 -- ---- a read that failed
 
 -- SPEC is accepted
-abbrev pub AcceptsSpec : Words → (List ℕ → Option (List ℕ)) → Type 0
-AcceptsSpec words texts = (spec : Spec) × MakesSpec words texts spec
+abbrev pub AcceptsSpec : Words → Shelved → Type 0
+AcceptsSpec words shelf = (spec : Spec) × MakesSpec words shelf spec
 
 -- SPEC and MATCH are accepted
-abbrev pub AcceptsTexts : Words → (List ℕ → Option (List ℕ)) → Type 0
-AcceptsTexts words texts = (spec : Spec) × (statement : Statement) × MakesSpec words texts spec × MakesStatement words texts spec statement
+abbrev pub AcceptsTexts : Words → Shelved → Type 0
+AcceptsTexts words shelf = (spec : Spec) × (statement : Statement) × MakesSpec words shelf spec × MakesStatement words shelf spec statement
 
 -- a call that reads failed, a text's or the input's, and this is its name; what is read before it is accepted
-abbrev pub Unread : Words → (List ℕ → Option (List ℕ)) → (List ℕ → Type 0) → Type 0 → List ℕ → Type 0
-Unread words texts shelf_rose input_rose name =
+abbrev pub Unread : Words → Shelved → (List ℕ → Type 0) → Type 0 → List ℕ → Type 0
+Unread words shelf shelf_rose input_rose name =
     ((name ≡ words.spec) × shelf_rose words.spec)
-    ⊎ (((name ≡ words.matching) × AcceptsSpec words texts × shelf_rose words.matching)
-    ⊎ ((name ≡ codes "input") × AcceptsTexts words texts × input_rose))
+    ⊎ (((name ≡ words.matching) × AcceptsSpec words shelf × shelf_rose words.matching)
+    ⊎ ((name ≡ codes "input") × AcceptsTexts words shelf × input_rose))
 
-abbrev pub UnreadByWords : Option Words → (List ℕ → Option (List ℕ)) → (List ℕ → Type 0) → Type 0 → List ℕ → Type 0
-UnreadByWords None texts shelf_rose input_rose name = ⊥
-UnreadByWords (Some words) texts shelf_rose input_rose name = Unread words texts shelf_rose input_rose name
+abbrev pub UnreadByWords : Option Words → Shelved → (List ℕ → Type 0) → Type 0 → List ℕ → Type 0
+UnreadByWords None shelf shelf_rose input_rose name = ⊥
+UnreadByWords (Some words) shelf shelf_rose input_rose name = Unread words shelf shelf_rose input_rose name
 
 -- ---- what stands
 
@@ -104,7 +103,7 @@ pub record IsUnread (unread : List ℕ → Type 0) (sink log : Change) : Type 0 
   pub output : GetsNothing sink
   pub notes : Gets log (message name problem.Unread)
 
--- words and texts come to something, and where the reply to that is told, so much holds of it
+-- words and shelf come to something, and where the reply to that is told, so much holds of it
 abbrev pub Answered : (Settled → Type 0) → Option (List ℕ) → (Reply → Type 0) → Type 0
 Answered settles input P = (s : Settled) × settles s × ForSome (reply s input) P
 

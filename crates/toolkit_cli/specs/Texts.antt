@@ -1,5 +1,5 @@
 -- What a text means, or why it is refused.
-use Rattle.std.specs.Prelude.{◌≡◌, ℕ, ◌<◌, ◌≤◌, List, length, Option, None, Some}
+use Rattle.std.specs.Prelude.{◌≡◌, ℕ, Bool, false, ◌<◌, ◌≤◌, List, length, Option, None, Some}
 use Rattle.sled_base.specs.declared.limits.TheConstants.{MAX_TEXT}
 use Rattle.sled_base.specs.declared.faults.TextFault.{TextFault}
 use Rattle.sled_base.specs.declared.faults.TextFault.TheVariants as load
@@ -127,3 +127,8 @@ abbrev pub Stops : (List ℕ → Problem → Type 0) → List ℕ → TextStop �
 Stops refuses text (Refused p) = refuses text p
 Stops refuses text Unread = Unit {0}
 Stops refuses text NoMemory = Unit {0}
+
+-- a text that is refused is there
+abbrev pub StopsThere : Bool → TextStop → Type 0
+StopsThere lacks (Refused p) = lacks ≡ false
+StopsThere lacks _ = Unit {0}

@@ -39,7 +39,10 @@ pub enum Problem {
     /// At the place of this address a byte stands at 2^32 or above.
     AddressEnd(u64),
     /// The first that lacks something has a form that is not built.
-    NotBuilt { unit: Unit, number: u64 },
+    NotBuilt {
+        unit: Unit,
+        number: u64,
+    },
 }
 
 impl Problem {

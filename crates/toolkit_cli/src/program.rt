@@ -33,7 +33,7 @@ pub fn run<H: Shelf, I: Source, O: Sink, E: Sink>(
     notes: &mut E,
 ) -> Status
     // Done, Refused and Usage come only where output, notes and status are those of the reply to what words and texts come to.
-    ensures answered { IsAnswer result → Answered (Settles (words_of (map string_bytes words.now)) (H.text shelf.old)) (I.left input.old) (IsReply
+    ensures answered { IsAnswer result → Answered (Settles (words_of (map string_bytes words.now)) (record { text = H.text shelf.old; lacks = H.lacks shelf.old })) (I.left input.old) (IsReply
         (record { old = O.contents out.old; new = O.contents out.new; count = O.faults out.old; new_count = O.faults out.new })
         (record { old = E.contents notes.old; new = E.contents notes.new; count = E.faults notes.old; new_count = E.faults notes.new })
         result) }
@@ -48,20 +48,20 @@ pub fn run<H: Shelf, I: Source, O: Sink, E: Sink>(
 
     // A read failed: its name, its count, the texts before it, and nothing written but its message.
     ensures read_fault { result ≡ Status.ReadFault → IsUnread
-        (UnreadByWords (words_of (map string_bytes words.now)) (H.text shelf.old)
+        (UnreadByWords (words_of (map string_bytes words.now)) (record { text = H.text shelf.old; lacks = H.lacks shelf.old })
         (λ name. Rose (H.faults shelf.old name) (H.faults shelf.new name)) (Rose (I.faults input.old) (I.faults input.new)))
         (record { old = O.contents out.old; new = O.contents out.new; count = O.faults out.old; new_count = O.faults out.new })
         (record { old = E.contents notes.old; new = E.contents notes.new; count = E.faults notes.old; new_count = E.faults notes.new }) }
 
     // A write failed: the count of out or of notes, and what each got.
-    ensures write_fault { result ≡ Status.WriteFault → IsUnwritten (Settles (words_of (map string_bytes words.now)) (H.text shelf.old)) (I.left input.old)
-        (UnreadByWords (words_of (map string_bytes words.now)) (H.text shelf.old)
+    ensures write_fault { result ≡ Status.WriteFault → IsUnwritten (Settles (words_of (map string_bytes words.now)) (record { text = H.text shelf.old; lacks = H.lacks shelf.old })) (I.left input.old)
+        (UnreadByWords (words_of (map string_bytes words.now)) (record { text = H.text shelf.old; lacks = H.lacks shelf.old })
         (λ name. Rose (H.faults shelf.old name) (H.faults shelf.new name)) (Rose (I.faults input.old) (I.faults input.new)))
         (record { old = O.contents out.old; new = O.contents out.new; count = O.faults out.old; new_count = O.faults out.new })
         (record { old = E.contents notes.old; new = E.contents notes.new; count = E.faults notes.old; new_count = E.faults notes.new }) }
 
     // There was no memory: nothing is written, or parts of the output and of the notes.
-    ensures no_memory { result ≡ Status.NoMemory → IsForgone (Settles (words_of (map string_bytes words.now)) (H.text shelf.old)) (I.left input.old)
+    ensures no_memory { result ≡ Status.NoMemory → IsForgone (Settles (words_of (map string_bytes words.now)) (record { text = H.text shelf.old; lacks = H.lacks shelf.old })) (I.left input.old)
         (record { old = O.contents out.old; new = O.contents out.new; count = O.faults out.old; new_count = O.faults out.new })
         (record { old = E.contents notes.old; new = E.contents notes.new; count = E.faults notes.old; new_count = E.faults notes.new }) }
 
@@ -71,6 +71,7 @@ pub fn run<H: Shelf, I: Source, O: Sink, E: Sink>(
     ensures others { (name : List ℕ) → ForSome (words_of (map string_bytes words.now)) (λ w. (name ≢ w.spec) × (name ≢ w.matching))
         → H.faults shelf.new name ≡ H.faults shelf.old name }
     ensures texts { (any : List ℕ) → H.text shelf.new any ≡ H.text shelf.old any }
+    ensures absent { (any : List ℕ) → H.lacks shelf.new any ≡ H.lacks shelf.old any }
 {
     answer(alloc, words, shelf, input, out, notes)
 }
@@ -84,8 +85,8 @@ fn answer<H: Shelf, I: Source, O: Sink, E: Sink>(
     out: &mut O,
     notes: &mut E,
 ) -> Status
-    ensures stands { Stands (Settles (words_of (map string_bytes words.now)) (H.text shelf.old)) (I.left input.old)
-        (UnreadByWords (words_of (map string_bytes words.now)) (H.text shelf.old)
+    ensures stands { Stands (Settles (words_of (map string_bytes words.now)) (record { text = H.text shelf.old; lacks = H.lacks shelf.old })) (I.left input.old)
+        (UnreadByWords (words_of (map string_bytes words.now)) (record { text = H.text shelf.old; lacks = H.lacks shelf.old })
         (λ name. Rose (H.faults shelf.old name) (H.faults shelf.new name)) (Rose (I.faults input.old) (I.faults input.new)))
         (record { old = O.contents out.old; new = O.contents out.new; count = O.faults out.old; new_count = O.faults out.new })
         (record { old = E.contents notes.old; new = E.contents notes.new; count = E.faults notes.old; new_count = E.faults notes.new })
@@ -95,6 +96,7 @@ fn answer<H: Shelf, I: Source, O: Sink, E: Sink>(
     ensures others { (name : List ℕ) → ForSome (words_of (map string_bytes words.now)) (λ w. (name ≢ w.spec) × (name ≢ w.matching))
         → H.faults shelf.new name ≡ H.faults shelf.old name }
     ensures texts { (any : List ℕ) → H.text shelf.new any ≡ H.text shelf.old any }
+    ensures absent { (any : List ℕ) → H.lacks shelf.new any ≡ H.lacks shelf.old any }
 {
     match command_of(words) {
         None => say(USAGE.as_bytes(), Status::Usage, notes),
@@ -110,8 +112,8 @@ fn dis<H: Shelf, I: Source, O: Sink, E: Sink>(
     out: &mut O,
     notes: &mut E,
 ) -> Status
-    ensures stands { Stands (SettlesDis (command_words command.now) (H.text shelf.old)) (I.left input.old)
-        (Unread (command_words command.now) (H.text shelf.old)
+    ensures stands { Stands (SettlesDis (command_words command.now) (record { text = H.text shelf.old; lacks = H.lacks shelf.old })) (I.left input.old)
+        (Unread (command_words command.now) (record { text = H.text shelf.old; lacks = H.lacks shelf.old })
         (λ name. Rose (H.faults shelf.old name) (H.faults shelf.new name)) (Rose (I.faults input.old) (I.faults input.new)))
         (record { old = O.contents out.old; new = O.contents out.new; count = O.faults out.old; new_count = O.faults out.new })
         (record { old = E.contents notes.old; new = E.contents notes.new; count = E.faults notes.old; new_count = E.faults notes.new })
@@ -120,6 +122,7 @@ fn dis<H: Shelf, I: Source, O: Sink, E: Sink>(
     ensures read_to_end { result ≡ Status.Done → IsAtEnd (I.left input.new) }
     ensures others { (name : List ℕ) → name ≢ command.now.spec.now → name ≢ command.now.matching.now → H.faults shelf.new name ≡ H.faults shelf.old name }
     ensures texts { (any : List ℕ) → H.text shelf.new any ≡ H.text shelf.old any }
+    ensures absent { (any : List ℕ) → H.lacks shelf.new any ≡ H.lacks shelf.old any }
 {
     let spec = match read_spec(alloc, shelf, command.spec) {
         Ok(spec) => spec,
@@ -187,7 +190,13 @@ fn listed<I: Source, O: Sink, E: Sink>(
             Status::Refused(10),
             notes,
         ),
-        Err(ListFault::ReadFault) => tell(alloc, "input", Problem::Unread, Status::ReadFault, notes),
+        Err(ListFault::ReadFault) => tell(
+            alloc,
+            "input",
+            Problem::Unread,
+            Status::ReadFault,
+            notes,
+        ),
         Err(ListFault::WriteFault) => Status::WriteFault,
         Err(ListFault::NoMemory) => Status::NoMemory,
     }

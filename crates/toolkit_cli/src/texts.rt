@@ -1,5 +1,5 @@
 // Texts that are read, and what goes to the notes.
-ghost use Rattle.std.specs.Prelude.{◌≡◌, ◌≢◌, ◌≤◌, ℕ, List, length, IfOk, IfErr, IsErrOf};
+ghost use Rattle.std.specs.Prelude.{◌≡◌, ◌≢◌, ◌≤◌, ℕ, List, false, length, IfOk, IfErr, IsErrOf};
 ghost use Rattle.std.specs.Option.{ForSome};
 ghost use Rattle.sled_base.specs.Causes.{Rose};
 ghost use Rattle.sled_model.specs.OneToken.{IsOneTokenStatement};
@@ -30,10 +30,13 @@ pub fn read_spec<H: Shelf>(alloc: Global, shelf: &mut H, name: &str) -> Result<S
     ensures made { IfOk result (λ spec. ForSome (H.text shelf.old name.now) (λ t. of.IsDescribed t spec)) }
     ensures built { IfOk result IsBuiltSpec }
     ensures refused { IfErr result (λ stop. ForSome (H.text shelf.old name.now) (λ t. of.Stops of.RefusesDescription t stop)) }
+    ensures there { IfOk result (λ _. H.lacks shelf.old name.now ≡ false) }
+    ensures stops { IfErr result (of.StopsThere (H.lacks shelf.old name.now)) }
     ensures unread { IsErrOf result TextStop.Unread → Rose (H.faults shelf.old name.now) (H.faults shelf.new name.now) }
     ensures later { (any : List ℕ) → H.faults shelf.old any ≤ H.faults shelf.new any }
     ensures others { (other : List ℕ) → other ≢ name.now → H.faults shelf.new other ≡ H.faults shelf.old other }
     ensures texts { (any : List ℕ) → H.text shelf.new any ≡ H.text shelf.old any }
+    ensures absent { (any : List ℕ) → H.lacks shelf.new any ≡ H.lacks shelf.old any }
 {
     match load_text(alloc, shelf, name) {
         Ok(text) => described(alloc, &text),
@@ -52,10 +55,13 @@ pub fn read_statement<H: Shelf>(
     ensures made { IfOk result (λ statement. ForSome (H.text shelf.old name.now) (λ t. of.IsStated spec.now t statement)) }
     ensures built { IfOk result (IsOneTokenStatement spec.now) }
     ensures refused { IfErr result (λ stop. ForSome (H.text shelf.old name.now) (λ t. of.Stops (of.RefusesStatement spec.now) t stop)) }
+    ensures there { IfOk result (λ _. H.lacks shelf.old name.now ≡ false) }
+    ensures stops { IfErr result (of.StopsThere (H.lacks shelf.old name.now)) }
     ensures unread { IsErrOf result TextStop.Unread → Rose (H.faults shelf.old name.now) (H.faults shelf.new name.now) }
     ensures later { (any : List ℕ) → H.faults shelf.old any ≤ H.faults shelf.new any }
     ensures others { (other : List ℕ) → other ≢ name.now → H.faults shelf.new other ≡ H.faults shelf.old other }
     ensures texts { (any : List ℕ) → H.text shelf.new any ≡ H.text shelf.old any }
+    ensures absent { (any : List ℕ) → H.lacks shelf.new any ≡ H.lacks shelf.old any }
 {
     match load_text(alloc, shelf, name) {
         Ok(text) => stated(alloc, spec, &text),

@@ -1,4 +1,4 @@
-use Rattle.std.proofs.Common.{◌≡◌, inl, inr, refl}
+use Rattle.std.proofs.Common.{inl, refl}
 use Rattle.match_engine.specs.declared.listing.Stop.TheVariants.{NoMatch, AddressEnd}
 use Rattle.toolkit_cli.specs.Reply.{accepted}
 use Rattle.toolkit_cli.proofs.StandsLemmas.{told_stands, input_stopped, input_unwritten, Keeps-same}

@@ -1,4 +1,4 @@
-use Rattle.std.proofs.Common.{◌≡◌, Err, sym, ap, subst}
+use Rattle.std.proofs.Common.{Err, sym, ap, subst}
 use Rattle.sled_lexer.specs.Lexemes.{Lexemes, InRange}
 use Rattle.sled_parser.specs.Statements.{IsStatement}
 use Rattle.sled_elab.specs.Conditions.{statement_lack}
