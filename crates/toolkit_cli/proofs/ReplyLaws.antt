@@ -8,7 +8,6 @@ use Rattle.sled_lexer.specs.declared.LexFault.TheVariants as lex
 use Rattle.sled_lexer.specs.Lexemes.{IsLexFault}
 use Rattle.sled_lexer.proofs.Exact.{one_list, one_fault, list_or_fault}
 use Rattle.sled_parser.specs.declared.tree.Decl.{Decl}
-use Rattle.sled_parser.specs.declared.tree.MatchTree.{MatchTree}
 use Rattle.sled_parser.specs.Pieces.{Input, pieces}
 use Rattle.sled_parser.specs.Nesting.{nest_fault}
 use Rattle.sled_parser.specs.Declarations.{IsDescription}
