@@ -7,7 +7,6 @@ use Rattle.sled_lexer.specs.declared.LexFault.{LexFault}
 use Rattle.sled_lexer.specs.declared.LexFault.TheVariants as lex
 use Rattle.sled_lexer.specs.Lexemes.{IsLexFault}
 use Rattle.sled_lexer.proofs.Exact.{one_list, one_fault, list_or_fault}
-use Rattle.sled_parser.specs.declared.tree.Decl.{Decl}
 use Rattle.sled_parser.specs.Pieces.{Input, pieces}
 use Rattle.sled_parser.specs.Nesting.{nest_fault}
 use Rattle.sled_parser.specs.Declarations.{IsDescription}
@@ -25,7 +24,9 @@ use Rattle.toolkit_cli.specs.declared.messages.Problem.{Problem}
 use Rattle.toolkit_cli.specs.declared.messages.Problem.TheVariants as problem
 use Rattle.toolkit_cli.specs.Words.{Words}
 use Rattle.toolkit_cli.specs.Texts.{IsLexed, IsParsed, IsNoSentence, NestsDeep, IsRefused, IsDescribed, RefusesDescription, IsStated, RefusesStatement, lack_problem}
-use Rattle.toolkit_cli.specs.Reply.{Settled, no_form, refused_text, accepted, SettlesDis, Settles}
+use Rattle.std.specs.Option.{ForSome}
+use Rattle.toolkit_cli.specs.Reply.{Settled, Shelved, no_form, refused_text, accepted, SettlesDis, Settles, TellsTexts, Reply, reply}
+use Rattle.toolkit_cli.specs.Stands.{Answered}
 
 -- ---- where the reading of a text ends
 
@@ -191,55 +192,61 @@ one_refusal_of_match spec text p q x y = one_refusal IsStatement one_statement (
 -- ---- what words and texts come to
 
 -- where SPEC is refused it comes to that, whatever MATCH is
-pub settled_by_spec : (words : Words) (texts : List ℕ → Option (List ℕ)) (t : List ℕ) (p : Problem) (a : Settled) → texts words.spec ≡ Some t → RefusesDescription t p → SettlesDis words texts a → a ≡ refused_text words.spec p
-settled_by_spec words texts t p no_form told refuses x = absurd x
-settled_by_spec words texts t p (refused_text name q) told refuses (inl h) = ap (λ (n : List ℕ). refused_text n q) h.0 ∙ ap (refused_text words.spec) (one_refusal_of_spec t q p (h.1 t told) refuses)
-settled_by_spec words texts t p (refused_text name q) told refuses (inr h) = absurd (described_stands t h.1.0 p (h.1.1 t told) refuses)
-settled_by_spec words texts t p (accepted spec statement base) told refuses x = absurd (described_stands t spec p (x.1 t told) refuses)
+pub settled_by_spec : (words : Words) (shelf : Shelved) (t : List ℕ) (p : Problem) (a : Settled) → shelf.text words.spec ≡ Some t → RefusesDescription t p → SettlesDis words shelf a → a ≡ refused_text words.spec p
+settled_by_spec words shelf t p no_form told refuses x = absurd x
+settled_by_spec words shelf t p (refused_text name q) told refuses (inl h) = ap (λ (n : List ℕ). refused_text n q) h.0 ∙ ap (refused_text words.spec) (one_refusal_of_spec t q p (h.1.1 t told) refuses)
+settled_by_spec words shelf t p (refused_text name q) told refuses (inr h) = absurd (described_stands t h.1.0 p (h.1.1.1 t told) refuses)
+settled_by_spec words shelf t p (accepted spec statement base) told refuses x = absurd (described_stands t spec p (x.1.1 t told) refuses)
 
 -- where SPEC makes a description and MATCH is refused over it, it comes to that
-pub settled_by_match : (words : Words) (texts : List ℕ → Option (List ℕ)) (t m : List ℕ) (spec : Spec) (p : Problem) (a : Settled) → texts words.spec ≡ Some t → texts words.matching ≡ Some m
-    → IsDescribed t spec → RefusesStatement spec m p → SettlesDis words texts a → a ≡ refused_text words.matching p
-settled_by_match words texts t m spec p no_form told_spec told_match makes refuses x = absurd x
-settled_by_match words texts t m spec p (refused_text name q) told_spec told_match makes refuses (inl h) = absurd (described_stands t spec q makes (h.1 t told_spec))
-settled_by_match words texts t m spec p (refused_text name q) told_spec told_match makes refuses (inr h) =
-    let over : RefusesStatement spec m q = subst (λ (s : Spec). RefusesStatement s m q) (one_described t h.1.0 spec (h.1.1 t told_spec) makes) (h.1.2 m told_match) in
+pub settled_by_match : (words : Words) (shelf : Shelved) (t m : List ℕ) (spec : Spec) (p : Problem) (a : Settled) → shelf.text words.spec ≡ Some t → shelf.text words.matching ≡ Some m
+    → IsDescribed t spec → RefusesStatement spec m p → SettlesDis words shelf a → a ≡ refused_text words.matching p
+settled_by_match words shelf t m spec p no_form told_spec told_match makes refuses x = absurd x
+settled_by_match words shelf t m spec p (refused_text name q) told_spec told_match makes refuses (inl h) = absurd (described_stands t spec q makes (h.1.1 t told_spec))
+settled_by_match words shelf t m spec p (refused_text name q) told_spec told_match makes refuses (inr h) =
+    let over : RefusesStatement spec m q = subst (λ (s : Spec). RefusesStatement s m q) (one_described t h.1.0 spec (h.1.1.1 t told_spec) makes) (h.1.2.1 m told_match) in
     ap (λ (n : List ℕ). refused_text n q) h.0 ∙ ap (refused_text words.matching) (one_refusal_of_match spec m q p over refuses)
-settled_by_match words texts t m spec p (accepted other statement base) told_spec told_match makes refuses x =
-    absurd (stated_stands spec m statement p (subst (λ (s : Spec). IsStated s m statement) (one_described t other spec (x.1 t told_spec) makes) (x.2 m told_match)) refuses)
+settled_by_match words shelf t m spec p (accepted other statement base) told_spec told_match makes refuses x =
+    absurd (stated_stands spec m statement p (subst (λ (s : Spec). IsStated s m statement) (one_described t other spec (x.1.1 t told_spec) makes) (x.2.1 m told_match)) refuses)
 
 -- where both are accepted it comes to what they make, with the base of the words
-pub settled_by_both : (words : Words) (texts : List ℕ → Option (List ℕ)) (t m : List ℕ) (spec : Spec) (statement : Statement) (a : Settled) → texts words.spec ≡ Some t → texts words.matching ≡ Some m
-    → IsDescribed t spec → IsStated spec m statement → SettlesDis words texts a → a ≡ accepted spec statement words.base
-settled_by_both words texts t m spec statement no_form told_spec told_match makes states x = absurd x
-settled_by_both words texts t m spec statement (refused_text name q) told_spec told_match makes states (inl h) = absurd (described_stands t spec q makes (h.1 t told_spec))
-settled_by_both words texts t m spec statement (refused_text name q) told_spec told_match makes states (inr h) =
-    absurd (stated_stands spec m statement q states (subst (λ (s : Spec). RefusesStatement s m q) (one_described t h.1.0 spec (h.1.1 t told_spec) makes) (h.1.2 m told_match)))
-settled_by_both words texts t m spec statement (accepted other stated base) told_spec told_match makes states x =
-    let same : other ≡ spec = one_described t other spec (x.1 t told_spec) makes in
-    let over : IsStated spec m stated = subst (λ (s : Spec). IsStated s m stated) same (x.2 m told_match) in
+pub settled_by_both : (words : Words) (shelf : Shelved) (t m : List ℕ) (spec : Spec) (statement : Statement) (a : Settled) → shelf.text words.spec ≡ Some t → shelf.text words.matching ≡ Some m
+    → IsDescribed t spec → IsStated spec m statement → SettlesDis words shelf a → a ≡ accepted spec statement words.base
+settled_by_both words shelf t m spec statement no_form told_spec told_match makes states x = absurd x
+settled_by_both words shelf t m spec statement (refused_text name q) told_spec told_match makes states (inl h) = absurd (described_stands t spec q makes (h.1.1 t told_spec))
+settled_by_both words shelf t m spec statement (refused_text name q) told_spec told_match makes states (inr h) =
+    absurd (stated_stands spec m statement q states (subst (λ (s : Spec). RefusesStatement s m q) (one_described t h.1.0 spec (h.1.1.1 t told_spec) makes) (h.1.2.1 m told_match)))
+settled_by_both words shelf t m spec statement (accepted other stated base) told_spec told_match makes states x =
+    let same : other ≡ spec = one_described t other spec (x.1.1 t told_spec) makes in
+    let over : IsStated spec m stated = subst (λ (s : Spec). IsStated s m stated) same (x.2.1 m told_match) in
     ap (λ (s : Spec). accepted s stated base) same ∙ ap (λ (s : Statement). accepted spec s base) (one_stated spec m stated statement over states) ∙ ap (accepted spec statement) x.0
 
 -- all that they come to is one
-record Comes (words : Words) (texts : List ℕ → Option (List ℕ)) : Type 0 where
+record Comes (words : Words) (shelf : Shelved) : Type 0 where
   pub to : Settled
-  pub only : (a : Settled) → SettlesDis words texts a → a ≡ to
+  pub only : (a : Settled) → SettlesDis words shelf a → a ≡ to
 
-comes : (words : Words) (texts : List ℕ → Option (List ℕ)) (t m : List ℕ) (a : Settled) → texts words.spec ≡ Some t → texts words.matching ≡ Some m → SettlesDis words texts a → Comes words texts
-comes words texts t m no_form told_spec told_match x = absurd x
-comes words texts t m (refused_text name p) told_spec told_match (inl h) = record { to = refused_text words.spec p; only = λ b y. settled_by_spec words texts t p b told_spec (h.1 t told_spec) y }
-comes words texts t m (refused_text name p) told_spec told_match (inr h) =
-    record { to = refused_text words.matching p; only = λ b y. settled_by_match words texts t m h.1.0 p b told_spec told_match (h.1.1 t told_spec) (h.1.2 m told_match) y }
-comes words texts t m (accepted spec statement base) told_spec told_match x =
-    record { to = accepted spec statement words.base; only = λ b y. settled_by_both words texts t m spec statement b told_spec told_match (x.1 t told_spec) (x.2 m told_match) y }
+comes : (words : Words) (shelf : Shelved) (t m : List ℕ) (a : Settled) → shelf.text words.spec ≡ Some t → shelf.text words.matching ≡ Some m → SettlesDis words shelf a → Comes words shelf
+comes words shelf t m no_form told_spec told_match x = absurd x
+comes words shelf t m (refused_text name p) told_spec told_match (inl h) = record { to = refused_text words.spec p; only = λ b y. settled_by_spec words shelf t p b told_spec (h.1.1 t told_spec) y }
+comes words shelf t m (refused_text name p) told_spec told_match (inr h) =
+    record { to = refused_text words.matching p; only = λ b y. settled_by_match words shelf t m h.1.0 p b told_spec told_match (h.1.1.1 t told_spec) (h.1.2.1 m told_match) y }
+comes words shelf t m (accepted spec statement base) told_spec told_match x =
+    record { to = accepted spec statement words.base; only = λ b y. settled_by_both words shelf t m spec statement b told_spec told_match (x.1.1 t told_spec) (x.2.1 m told_match) y }
 
 -- words and told texts come to one thing at most
-pub one_settled : (words : Words) (texts : List ℕ → Option (List ℕ)) (spec matching : List ℕ) (a b : Settled) → texts words.spec ≡ Some spec → texts words.matching ≡ Some matching
-    → SettlesDis words texts a → SettlesDis words texts b → a ≡ b
-one_settled words texts spec matching a b told_spec told_match x y =
-    let c = comes words texts spec matching a told_spec told_match x in
+pub one_settled : (words : Words) (shelf : Shelved) (spec matching : List ℕ) (a b : Settled) → shelf.text words.spec ≡ Some spec → shelf.text words.matching ≡ Some matching
+    → SettlesDis words shelf a → SettlesDis words shelf b → a ≡ b
+one_settled words shelf spec matching a b told_spec told_match x y =
+    let c = comes words shelf spec matching a told_spec told_match x in
     c.only a x ∙ sym (c.only b y)
 
 -- so where they ask for nothing
-pub one_settled_unasked : (texts : List ℕ → Option (List ℕ)) (a b : Settled) → Settles None texts a → Settles None texts b → a ≡ b
-one_settled_unasked texts a b x y = x ∙ sym y
+pub one_settled_unasked : (shelf : Shelved) (a b : Settled) → Settles None shelf a → Settles None shelf b → a ≡ b
+one_settled_unasked shelf a b x y = x ∙ sym y
+
+-- where all texts are told, what holds of the reply to something that words and texts come to holds of the reply to anything that they come to
+pub only_settled : (asked : Option Words) (shelf : Shelved) (input : Option (List ℕ)) (P : Reply → Type 0) (s : Settled) → TellsTexts asked shelf → Settles asked shelf s → Answered (Settles asked shelf) input P → ForSome (reply s input) P
+only_settled None shelf input P s told so h = subst (λ (a : Settled). ForSome (reply a input) P) (one_settled_unasked shelf h.0 s h.1 so) h.2
+only_settled (Some words) shelf input P s told so h =
+    subst (λ (a : Settled). ForSome (reply a input) P) (one_settled words shelf told.0.0 told.1.0 h.0 s told.0.1 told.1.1 h.1 so) h.2
