@@ -1,5 +1,5 @@
 -- How what stands after a part of a run makes what stands after the whole.
-use Rattle.std.proofs.Common.{◌≡◌, ◌⊎◌, inl, inr, ℕ, ◌≤◌, List, [], length, Some, None, refl, sym, ◌∙◌, ap, subst, append-nil, arith}
+use Rattle.std.proofs.Common.{◌≡◌, ◌⊎◌, inl, inr, ℕ, zero, suc, ◌<◌, take, ◌≤◌, List, [], length, Some, None, refl, sym, ◌∙◌, ap, subst, append-nil, arith}
 use Rattle.std.proofs.Math.Seq.{take-length}
 use Rattle.std.specs.Prelude.{Option, option_map, codes}
 use Rattle.std.specs.Option.{ForSome}
@@ -21,7 +21,7 @@ use Rattle.toolkit_cli.specs.Words.{Words}
 use Rattle.toolkit_cli.specs.Messages.{message, problem_number, usage_text}
 use Rattle.toolkit_cli.specs.Reply.{Settled, Shelved, no_form, refused_text, accepted, Settles, Reply, reply, refused, listing_reply, listed_reply, stop_problem, usage_reply}
 use Rattle.toolkit_cli.specs.Told.{Told}
-use Rattle.toolkit_cli.specs.Stands.{Change, HasFailed, Gets, GetsPrefix, GetsNothing, IsReply, OutFailed, NotesFailed, IsAnswer, Answered, IsUnwritten, Stands, StopTold, UnreadByWords}
+use Rattle.toolkit_cli.specs.Stands.{Change, HasFailed, Gets, GetsPrefix, GetsNothing, IsReply, OutFailed, NotesFailed, HasPart, IsAnswer, Answered, IsUnwritten, Stands, StopTold, UnreadByWords, AcceptsByWords}
 
 -- a count that rose later has risen
 pub Rose-later : (a b c : ℕ) → a ≤ b → Rose b c → Rose a c
@@ -236,3 +236,52 @@ stands_no_form asked shelf input shelf_rose input_rose sink log status e h =
       formless ReadFault h = absurd h.read
       formless WriteFault h = inr (inl refl)
       formless NoMemory h = inr (inr refl)
+
+-- ---- where the texts are not both accepted
+
+take_none : (n : ℕ) → take n [] ≡ (let none : List ℕ = [] in none)
+take_none zero = refl
+take_none (suc n) = refl
+
+got_nothing : (s : Change) (bytes : List ℕ) → bytes ≡ [] → Gets s bytes → GetsNothing s
+got_nothing s bytes e h = kept s.old s.new (subst (λ (b : List ℕ). Appends s.old s.new b) e h) where
+  kept : (a b : Option (List ℕ)) → Appends a b [] → Keeps a b
+  kept None b h = tt
+  kept (Some x) None h = absurd h
+  kept (Some x) (Some y) h = h ∙ append-nil x
+
+got_part : (s : Change) (bytes : List ℕ) → bytes ≡ [] → GetsPrefix s bytes → GetsNothing s
+got_part s bytes e h = got_nothing s (take h.0 bytes) (ap (take h.0) e ∙ take_none h.0) h.1
+
+no_proper : (s : Change) (bytes : List ℕ) → bytes ≡ [] → ¬ AppendsProperPrefix s.old s.new bytes
+no_proper s bytes e h = absurd (omega (arith, h.1, ap length e))
+
+-- both texts are accepted, or the reply has no output
+silent : (asked : Option Words) (shelf : Shelved) (input : Option (List ℕ)) (s : Settled) → Settles asked shelf s
+    → AcceptsByWords asked shelf ⊎ ((r : Reply) × (reply s input ≡ Some r) × (r.output ≡ []))
+silent None shelf input s so = inr (usage_reply, ap (λ (x : Settled). reply x input) so, refl)
+silent (Some words) shelf input no_form so = absurd so
+silent (Some words) shelf input (refused_text name p) so = inr (refused [] name p, refl, refl)
+silent (Some words) shelf input (accepted spec statement base) so = inl (spec, statement, so.1, so.2)
+
+-- so nothing is written there
+untouched_by : (asked : Option Words) (shelf : Shelved) (input : Option (List ℕ)) (P : Reply → Type 0) (sink : Change) → ((r : Reply) → r.output ≡ [] → P r → GetsNothing sink)
+    → Answered (Settles asked shelf) input P → AcceptsByWords asked shelf ⊎ GetsNothing sink
+untouched_by asked shelf input P sink nothing h = by_case (silent asked shelf input h.0 h.1) where
+  by_case : AcceptsByWords asked shelf ⊎ ((r : Reply) × (reply h.0 input ≡ Some r) × (r.output ≡ [])) → AcceptsByWords asked shelf ⊎ GetsNothing sink
+  by_case (inl a) = inl a
+  by_case (inr k) = inr (nothing k.0 k.2 (h.2 k.0 k.1))
+
+pub stands_untouched : (asked : Option Words) (shelf : Shelved) (input : Option (List ℕ)) (unread : List ℕ → Type 0) (sink log : Change) (status : Status)
+    → Stands (Settles asked shelf) input unread sink log status → AcceptsByWords asked shelf ⊎ GetsNothing sink
+stands_untouched asked shelf input unread sink log Done h = untouched_by asked shelf input (IsReply sink log Done) sink (λ r e k. got_nothing sink r.output e k.output) h
+stands_untouched asked shelf input unread sink log (Refused number) h = untouched_by asked shelf input (IsReply sink log (Refused number)) sink (λ r e k. got_nothing sink r.output e k.output) h
+stands_untouched asked shelf input unread sink log Usage h = untouched_by asked shelf input (IsReply sink log Usage) sink (λ r e k. got_nothing sink r.output e k.output) h
+stands_untouched asked shelf input unread sink log ReadFault h = inr h.output
+stands_untouched asked shelf input unread sink log WriteFault (inr h) = inr h.output
+stands_untouched asked shelf input unread sink log WriteFault (inl h) = by_part h.2 where
+  by_part : OutFailed (reply h.0 input) sink log ⊎ NotesFailed (reply h.0 input) sink log → AcceptsByWords asked shelf ⊎ GetsNothing sink
+  by_part (inl k) = untouched_by asked shelf input (λ r. AppendsProperPrefix sink.old sink.new r.output) sink (λ r e part. absurd (no_proper sink r.output e part)) (h.0, h.1, k.output)
+  by_part (inr k) = untouched_by asked shelf input (λ r. Gets sink r.output) sink (λ r e got. got_nothing sink r.output e got) (h.0, h.1, k.output)
+stands_untouched asked shelf input unread sink log NoMemory (inl h) = inr h.0
+stands_untouched asked shelf input unread sink log NoMemory (inr h) = untouched_by asked shelf input (HasPart sink log) sink (λ r e k. got_part sink r.output e k.output) h

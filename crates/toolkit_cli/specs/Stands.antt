@@ -52,6 +52,11 @@ AcceptsSpec words shelf = (spec : Spec) × MakesSpec words shelf spec
 abbrev pub AcceptsTexts : Words → Shelved → Type 0
 AcceptsTexts words shelf = (spec : Spec) × (statement : Statement) × MakesSpec words shelf spec × MakesStatement words shelf spec statement
 
+-- words ask for texts, and both are accepted
+abbrev pub AcceptsByWords : Option Words → Shelved → Type 0
+AcceptsByWords None shelf = ⊥
+AcceptsByWords (Some words) shelf = AcceptsTexts words shelf
+
 -- a call that reads failed, a text's or the input's, and this is its name; what is read before it is accepted
 abbrev pub Unread : Words → Shelved → (List ℕ → Type 0) → Type 0 → List ℕ → Type 0
 Unread words shelf shelf_rose input_rose name =

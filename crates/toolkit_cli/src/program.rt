@@ -1,13 +1,13 @@
 // The top call.
 ghost use Rattle.std.specs.Prelude.{◌≡◌, ◌⊎◌, ◌≢◌, ◌≤◌, ℕ, List, Option, None, Some, map, string_bytes};
 ghost use Rattle.std.specs.Option.{ForSome};
-ghost use Rattle.std.specs.Io.KnownBytes.{IsAtEnd};
+ghost use Rattle.std.specs.Io.KnownBytes.{IsAtEnd, Keeps};
 ghost use Rattle.sled_base.specs.Causes.{Rose};
 ghost use Rattle.sled_model.specs.OneToken.{IsOneTokenStatement};
 ghost use Rattle.toolkit_cli.specs.CommandWords.{command_words};
 ghost use Rattle.toolkit_cli.specs.Words.{words_of};
 ghost use Rattle.toolkit_cli.specs.Reply.{Settled, Settles, SettlesDis, TellsTexts, accepted, reply};
-ghost use Rattle.toolkit_cli.specs.Stands.{Stands, StopTold, InputUnread, Unread, UnreadByWords, Answered, IsAnswer, IsReply, IsUnread, IsUnwritten, IsForgone};
+ghost use Rattle.toolkit_cli.specs.Stands.{AcceptsByWords, Stands, StopTold, InputUnread, Unread, UnreadByWords, Answered, IsAnswer, IsReply, IsUnread, IsUnwritten, IsForgone};
 
 use crate::messages::Problem;
 use crate::status::Status;
@@ -71,6 +71,9 @@ pub fn run<H: Shelf, I: Source, O: Sink, E: Sink>(
     ensures no_memory { result ≡ Status.NoMemory → IsForgone (Settles (words_of (map string_bytes words.now)) (record { text = H.text shelf.old; lacks = H.lacks shelf.old })) (I.left input.old)
         (record { old = O.contents out.old; new = O.contents out.new; count = O.faults out.old; new_count = O.faults out.new })
         (record { old = E.contents notes.old; new = E.contents notes.new; count = E.faults notes.old; new_count = E.faults notes.new }) }
+
+    // Unless both texts are accepted, nothing is written to out, whatever the answer is.
+    ensures untouched { AcceptsByWords (words_of (map string_bytes words.now)) (record { text = H.text shelf.old; lacks = H.lacks shelf.old }) ⊎ Keeps (O.contents out.old) (O.contents out.new) }
 
     ensures read_to_end { result ≡ Status.Done → IsAtEnd (I.left input.new) }
 
