@@ -9,7 +9,8 @@ ghost use Rattle.sled_elab.specs.Meaning.{arm_of, statement_of};
 ghost use Rattle.sled_elab.specs.Names.{are_distinct, is_among};
 ghost use Rattle.sled_elab.specs.NameTables.{table_names};
 ghost use Rattle.sled_elab.specs.Actions.{unquoted, action_pieces as pieces_of};
-ghost use Rattle.sled_elab.specs.Built.{IsBuiltSpec, IsBuiltArm, IsBuiltStatement, IsScope};
+ghost use Rattle.sled_elab.specs.Built.{IsBuiltSpec, IsScope};
+ghost use Rattle.sled_model.specs.OneToken.{IsOneTokenArm, IsOneTokenStatement};
 ghost use Rattle.sled_elab.specs.Sections.{IsRefusedAt, HasFewTerms, ListedFewTerms, LacksAs};
 ghost use Rattle.sled_parser.specs.declared.tree.PatternTree.{out-PatternTree};
 
@@ -28,7 +29,7 @@ pub fn elaborate_match(alloc: Global, spec: &Spec, tree: &MatchTree) -> Result<S
     requires built { IsBuiltSpec spec.now }
     requires few { ListedFewTerms tree.now.arms }
     ensures made { IfOk result (λ statement. statement ≡ statement_of spec.now tree.now) }
-    ensures built { IfOk result (IsBuiltStatement spec.now) }
+    ensures built { IfOk result (IsOneTokenStatement spec.now) }
     ensures met { IfOk result (λ _. of.statement_lack spec.now tree.now ≡ None) }
     ensures refused { IfErr result (λ fault. IsRefusedAt fault (of.statement_lack spec.now tree.now)) }
 {
@@ -80,7 +81,7 @@ fn arms(
     requires scope { IsScope spec.now names.now }
     requires few { All HasFewTerms trees.now }
     ensures made { IfOk result (λ arms. arms ≡ map (arm_of spec.now) trees.now) }
-    ensures built { IfOk result (All (IsBuiltArm spec.now)) }
+    ensures built { IfOk result (All (IsOneTokenArm spec.now)) }
     ensures met { IfOk result (λ _. (has_skip : Bool) → of.arms_lack spec.now 1 trees.now has_skip ≡ of.arms_lack spec.now (length trees.now + 1) [] has_skip) }
     ensures refused { IfErr result (λ fault. (has_skip : Bool) → IsRefusedAt fault (of.arms_lack spec.now 1 trees.now has_skip)) }
 {
@@ -109,7 +110,7 @@ fn arm(
     requires scope { IsScope spec.now names.now }
     requires few { HasFewTerms tree.now }
     ensures made { IfOk result (λ arm. arm ≡ arm_of spec.now tree.now) }
-    ensures built { IfOk result (IsBuiltArm spec.now) }
+    ensures built { IfOk result (IsOneTokenArm spec.now) }
     ensures met { IfOk result (λ _. of.arm_lack spec.now tree.now ≡ None) }
     ensures refused { IfErr result (λ fault. LacksAs fault (of.arm_lack spec.now tree.now)) }
 {
@@ -143,7 +144,7 @@ fn made_arm(
     requires lacks { of.arm_lack spec.now tree.now ≡ None }
     requires action { pieces_of (bound_names spec.now (terms_of tree.now.pattern)) (unquoted tree.now.action) ≡ Some action }
     ensures made { IfOk result (λ arm. arm ≡ arm_of spec.now tree.now) }
-    ensures built { IfOk result (IsBuiltArm spec.now) }
+    ensures built { IfOk result (IsOneTokenArm spec.now) }
 {
     let terms = terms(&tree.pattern);
     let patterns = patterns(alloc, spec, names, terms)?;
@@ -158,7 +159,16 @@ fn is_built_arm(tree: &PatternTree) -> bool
     ensures { result ≡ is_built_pattern tree.now }
 {
     let terms = terms(tree);
-    !terms.is_empty() && terms.iter().all(|t| is_built(t))
+    if terms.is_empty() {
+        return false;
+    }
+    all_built(terms)
+}
+
+fn all_built(terms: &[PatternTree]) -> bool
+    ensures { result ≡ list_all is_built_term terms.now }
+{
+    terms.iter().all(|t| is_built(t))
 }
 
 fn are_known(spec: &Spec, names: &NameTable<'_>, terms: &[PatternTree]) -> bool
@@ -199,8 +209,8 @@ fn bound_table<'a>(
 // Adds the name, if there is one, and answers whether it was not there yet.
 fn add_bound<'a>(table: &mut NameTable<'a>, name: Option<&'a Name>) -> Result<bool, NoMemory>
     ensures { IfOk result (λ new. MatchBool new
-        (table_names table.new ≡ table_names table.old ++ option_to_list (option_map (λ x. x.now) name))
-        (list_any (is_among (table_names table.old)) (option_to_list (option_map (λ x. x.now) name)) ≡ true)) }
+        (table_names table.new ≡ table_names table.old ++ option_to_list (option_map (λ x. x.now) name.entry))
+        (list_any (is_among (table_names table.old)) (option_to_list (option_map (λ x. x.now) name.entry)) ≡ true)) }
 {
     match name {
         Some(name) => table.add(name.as_slice()),
@@ -225,7 +235,7 @@ fn bound_list(
 }
 
 fn push_bound(alloc: Global, list: &mut NameList, name: Option<&Name>) -> Result<(), NoMemory>
-    ensures { OnOk result (list.new ≡ list.old ++ option_to_list (option_map (λ x. x.now) name)) }
+    ensures { OnOk result (list.new ≡ list.old ++ option_to_list (option_map (λ x. x.now) name.entry)) }
 {
     if let Some(name) = name {
         list.push(Name::from_slice(alloc, name.as_slice())?)?;

@@ -11,15 +11,15 @@ use Rattle.sled_lexer.proofs.Faults.{same_fault, no_list_and_fault}
 pub one_list : (text : List ℕ) (ls ms : List Lexeme) → Lexemes text ls → Lexemes text ms → ls ≡ ms
 one_list text ls ms a b = same_lists text 0 ls ms a.0 b.0 a.1 a.2 b.1 b.2
 
--- and at most one fault
+-- a text has at most one fault
 pub one_fault : (text : List ℕ) (f g : LexFault) → IsLexFault text f → IsLexFault text g → f ≡ g
 one_fault text f g a b = same_fault text 0 a.0 b.0 a.1 b.1 f g a.2 a.3 a.4 b.2 b.3 b.4
 
--- and not both, if its Numbers are in range
+-- a text has not both lexemes in range and a fault
 pub list_or_fault : (text : List ℕ) (ls : List Lexeme) (f : LexFault) → Lexemes text ls → InRange text ls → IsLexFault text f → ⊥
 list_or_fault text ls f a in_range b = no_list_and_fault text 0 ls b.0 a.0 b.1 f a.1 in_range a.2 b.2 b.4
 
--- but one of them
+-- a text has one of both
 pub each_text : (text : List ℕ) → ((ls : List Lexeme) × Lexemes text ls × InRange text ls) ⊎ ((f : LexFault) × IsLexFault text f)
 each_text = list_or_stop
 
@@ -42,6 +42,6 @@ front_spelled : (text : List ℕ) (at : ℕ) (ls : List Lexeme) (end : ℕ) → 
 front_spelled text at [] end front = tt
 front_spelled text at (l ∷ ls) end front = (front.0.piece.spells, front_spelled text l.span.end ls end front.1)
 
--- and is spelled as its kind
+-- each lexeme of a text is spelled as its kind
 pub all_spelled : (text : List ℕ) (ls : List Lexeme) → Lexemes text ls → AllSpelled text ls
 all_spelled text ls all = front_spelled text 0 ls all.0 all.1

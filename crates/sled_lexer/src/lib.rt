@@ -30,7 +30,7 @@ mod piece;
 #[cfg(test)]
 mod tests;
 
-pub use number::{number_in_range, number_value};
+pub use number::{number_in_range, number_value, parse_number};
 use piece::{Stop, gap, piece};
 use sled_base::{MAX_TEXT, Span};
 use std::alloc::{AllocFailed, Global};
@@ -138,6 +138,7 @@ pub fn lex(alloc: Global, text: &[u8]) -> Result<Vec<Lexeme>, LexFault>
     ensures ok { IfOk result (λ v. Lexemes text.now v.items) }
     ensures range { IfOk result (λ v. InRange text.now v.items) }
     ensures within { IfOk result (λ v. AllWithin text.now v.items) }
+    ensures few { IfOk result (λ v. length v.items ≤ length text.now) }
     ensures fault { IfErr result (λ f. f ≢ LexFault.NoMemory → IsLexFault text.now f) }
 
     // There is no other list and no other fault, and never both.

@@ -1,13 +1,14 @@
 // Numbers: how long one is, and which number it writes.
 
-ghost use Rattle.std.specs.Prelude.{◌≡◌, ◌<◌, ◌≤◌, length, true};
+ghost use Rattle.std.specs.Prelude.{◌≡◌, ◌<◌, ◌≤◌, length, true, None, if◌then◌else◌};
 ghost use Rattle.std.specs.Str.Parse.{digits_value};
 ghost use Rattle.std.specs.Char.{digit_value};
+ghost use Rattle.std.specs.List.{list_all};
 ghost use Rattle.sled_lexer.specs.Spelled as meaning;
 ghost use Rattle.sled_lexer.specs.Cut as spec;
 
 use crate::Kind;
-use crate::piece::{Set, Stop, run};
+use crate::piece::{Set, Stop, is_in, run};
 use sled_base::MAX_NUMBER;
 
 /// Whether a hexadecimal Number stands at the front.
@@ -88,4 +89,45 @@ pub fn number_value(spelling: &[u8]) -> u32
     ensures { result ≡ meaning.number_value spelling.now }
 {
     number_in_range(spelling).unwrap()
+}
+
+/// The number of a text that is spelled as a Number: None exactly where it is not, or the number is above 4,294,967,295.
+pub fn parse_number(text: &[u8]) -> Option<u32>
+    ensures { result ≡ (if meaning.is_number text.now then meaning.within_limit (meaning.number_value text.now) else None) }
+{
+    if !is_number(text) {
+        return None;
+    }
+    number_in_range(text)
+}
+
+fn is_number(text: &[u8]) -> bool
+    ensures { result ≡ meaning.is_number text.now }
+{
+    if is_run(Set::Digit, text) {
+        return true;
+    }
+    match text.strip_prefix(b"0x") {
+        Some(digits) => is_run(Set::Hex, digits),
+        None => false,
+    }
+}
+
+/// Whether there is a byte, and each is of the set.
+fn is_run(set: Set, text: &[u8]) -> bool
+    ensures { result ≡ meaning.is_run (spec.is_in set) text.now }
+{
+    let Some((first, rest)) = text.split_first() else {
+        return false;
+    };
+    if !is_in(set, *first) {
+        return false;
+    }
+    all_in(set, rest)
+}
+
+fn all_in(set: Set, text: &[u8]) -> bool
+    ensures { result ≡ list_all (spec.is_in set) text.now }
+{
+    text.iter().all(|b| is_in(set, *b))
 }

@@ -95,6 +95,11 @@ fn reads_numbers(rt: HostRuntime) {
     assert_eq!(rt; number_value(b"0"), 0);
     assert_eq!(rt; number_value(b"007"), 7);
     assert_eq!(rt; number_value(b"4294967295"), 4_294_967_295);
+    assert_eq!(rt; parse_number(b"0x1F"), Some(31));
+    assert_eq!(rt; parse_number(b"007"), Some(7));
+    assert_eq!(rt; parse_number(b"4294967296"), None);
+    assert_eq!(rt; parse_number(b"0x"), None);
+    assert_eq!(rt; parse_number(b""), None);
     assert_eq!(rt; number_value(b"0x0"), 0);
     assert_eq!(rt; number_value(b"0xDeadBeef"), 3_735_928_559);
 }

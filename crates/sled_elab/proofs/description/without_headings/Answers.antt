@@ -11,7 +11,7 @@ pub loop-more-preserved : goal.loop-more-preserved
 loop-more-preserved c =
     let more : List Decl = c.in-Some-Heading-default.more.now in
     let is : c.loop-more.rest.now ≡ Heading c.in-Some-Heading-default.field-0-0-0 ∷ more =
-    c.in-Some-Heading-default.ensures.cases ∙ ap (λ (d : Decl). d ∷ more) c.in-Some-Heading-default.field-0-0-is in
+    c.in-Some-Heading-default.ensures.cases.0 ∙ ap (λ (d : Decl). d ∷ more) c.in-Some-Heading-default.field-0-0-is in
     record {
       same = sym (ap spec_of is) ∙ c.loop-more.invariant.same;
       lack = λ n. sym (ap (decls_lack n) is) ∙ c.loop-more.invariant.lack n;
