@@ -4,7 +4,8 @@ ghost use Rattle.std.specs.Prelude.{◌≡◌, ◌≢◌, ◌+◌, ◌≤◌, �
 use crate::NoMemory;
 use std::alloc::Global;
 
-/// A name for each load that failed. Room for one more is made ready before the load, so that a fault is always counted.
+/// The names of the loads that failed, one for each such load. A shelf prepares the copy of a name and the room for it before it tries the
+/// load, so that a fault can always be counted.
 #[derive(Drop)]
 pub struct FaultNames {
     names: Vec<Vec<u8>>,
@@ -13,7 +14,7 @@ pub struct FaultNames {
 impl FaultNames {
     ghost use Rattle.sled_base.specs.Names.{fault_count, HasRoom};
 
-    /// No load has failed. Takes no memory.
+    /// No name: no load has failed. Takes no memory.
     pub fn new(alloc: Global) -> FaultNames
         ensures { (name : List ℕ) → fault_count result name ≡ 0 }
     {
@@ -32,7 +33,7 @@ impl FaultNames {
             .count() as u64
     }
 
-    /// A copy of the name, and room to keep it.
+    /// A copy of the name, with room made to keep it. `NoMemory` where there is no memory for either. No count changes.
     pub fn prepare(&mut self, alloc: Global, name: &str) -> Result<Vec<u8>, NoMemory>
         ensures copy { IfOk result (λ v. v.items ≡ name.now) }
         ensures room { IfOk result (λ _. HasRoom self.new) }
@@ -43,7 +44,7 @@ impl FaultNames {
         Ok(copy)
     }
 
-    /// Counts one more failure of that name. Takes no memory.
+    /// Counts one more failure of that name, for which there has to be room. All other counts stay. Takes no memory.
     pub fn keep(&mut self, name: Vec<u8>)
         requires { HasRoom self.old }
         ensures counted { fault_count self.new name.items ≡ fault_count self.old name.items + 1 }

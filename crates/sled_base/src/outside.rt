@@ -8,7 +8,7 @@ ghost use Rattle.sled_base.specs.Causes.{Rose, HasCause};
 use crate::{Failed, ShelfFault};
 use std::alloc::Global;
 
-/// Named texts.
+/// Named texts. The shelf tells its texts and the names that it lacks or not, as its type says, and has a count of faults for each name.
 pub trait Shelf {
     /// The text of a name, where the shelf tells it.
     ghost text: { Self → List ℕ → Option (List ℕ) };
@@ -19,8 +19,9 @@ pub trait Shelf {
     /// How often a load of that name failed.
     ghost faults: { Self → List ℕ → ℕ };
 
-    /// The first `limit + 1` bytes of a text, or all of it where it has no more. `Failed` comes only where the count for the
-    /// name rose, and for each name that the shelf lacks unless there is no memory. No call changes a text.
+    /// The first `limit + 1` bytes of the text of a name, or all of it where it has no more. `Failed` where the text cannot be read,
+    /// only where the count for the name rose. `NoMemory` where there is no memory for the bytes. A name that the shelf lacks is not
+    /// loaded. The counts of all other names stay, no count falls, and no text changes.
     fn load(&mut self, alloc: Global, name: &str, limit: u32) -> Result<Vec<u8>, ShelfFault>
         ensures bytes { IfOk result (λ v. ForSome (text self.old name.now) (λ t. v.items ≡ take (limit + 1) t)) }
         ensures length { IfOk result (λ v. length v.items ≤ limit + 1) }
@@ -36,11 +37,12 @@ pub trait Shelf {
         ensures { result ≡ faults self.now name.now };
 }
 
-/// Bytes that come in.
+/// Bytes that come in. The source tells those that are left or not, as its type says, and has a count of faults.
 pub trait Source {
     /// The bytes that are left, where the source tells them.
     ghost left: { Self → Option (List ℕ) };
 
+    /// How often a read failed.
     ghost faults: { Self → ℕ };
 
     /// Moves the next bytes to the front of `buf`, which is not empty, and answers how many: 0 exactly where none is left.
@@ -56,11 +58,12 @@ pub trait Source {
         ensures { result ≡ faults self.now };
 }
 
-/// Bytes that go out.
+/// Bytes that go out. The sink tells those that it has taken or not, as its type says, and has a count of faults.
 pub trait Sink {
     /// The bytes that it has taken, where the sink tells them.
     ghost contents: { Self → Option (List ℕ) };
 
+    /// How often a write failed.
     ghost faults: { Self → ℕ };
 
     /// Appends the first bytes of `piece`, which is not empty, and answers how many: at least one. `Failed` comes only where

@@ -15,7 +15,7 @@ pub(crate) struct Entry {
     text: Vec<u8>,
 }
 
-/// Texts in memory, and the numbers of the loads that fail, counted from 1.
+/// Texts in memory, and the numbers of the loads that fail, counted from 1. It tells which texts it has, and so which names it lacks.
 #[derive(Drop)]
 pub struct MemShelf {
     alloc: Global,
@@ -28,7 +28,7 @@ pub struct MemShelf {
 impl MemShelf {
     ghost use Rattle.sled_base.specs.Shelf.{shelf_text, shelf_failing, shelf_calls, shelf_faults};
 
-    /// An empty shelf, on which the loads of these numbers fail.
+    /// An empty shelf, on which the loads of the numbers `failing` fail. `NoMemory` where there is no memory for the copy of these.
     pub fn new(alloc: Global, failing: &[u64]) -> Result<MemShelf, NoMemory>
         ensures texts { IfOk result (λ s. (name : List ℕ) → shelf_text s name ≡ None) }
         ensures faults { IfOk result (λ s. (name : List ℕ) → shelf_faults s name ≡ 0) }
@@ -44,7 +44,8 @@ impl MemShelf {
         })
     }
 
-    /// Puts a text on the shelf. A name that is there already gets the new text.
+    /// Puts a text under a name, both copied. A name that is there already gets the new text. `NoMemory` where there is no memory for
+    /// the copies; then each name has the text that it had.
     pub fn add(&mut self, name: &[u8], text: &[u8]) -> Result<(), NoMemory>
         ensures added { OnOk result (shelf_text self.new name.now ≡ Some text.now) }
         ensures others { OnOk result ((other : List ℕ) → other ≢ name.now → shelf_text self.new other ≡ shelf_text self.old other) }
@@ -71,7 +72,9 @@ impl Shelf for MemShelf {
 
     ghost faults = { shelf_faults };
 
-    /// Fails exactly where its number is on the list or the name is absent, unless there is no memory.
+    /// The first `limit + 1` bytes of the text, or all of it where it has no more. `Failed` exactly where the number of this load is on
+    /// the list or the name is absent, and the count for the name goes up by one. `NoMemory` may come in the place of either answer, where
+    /// there is no memory for the bytes or for the name of the failed load; it is no fault.
     fn load(&mut self, alloc: Global, name: &str, limit: u32) -> Result<Vec<u8>, ShelfFault>
         ensures bytes { IfOk result (λ v. ForSome (shelf_text self.old name.now) (λ t. v.items ≡ take (limit + 1) t)) }
         ensures length { IfOk result (λ v. length v.items ≤ limit + 1) }
@@ -83,6 +86,9 @@ impl Shelf for MemShelf {
         ensures absent { (any : List ℕ) → shelf_lacks self.new any ≡ shelf_lacks self.old any }
         ensures fails { IsErrOf result ShelfFault.Failed → LoadFails self.old name.now }
         ensures loads { IfOk result (λ _. LoadFails self.old name.now → ⊥) }
+        ensures counted { IsErrOf result ShelfFault.Failed → shelf_faults self.new name.now ≡ shelf_faults self.old name.now + 1 }
+        ensures kept { IfOk result (λ _. (any : List ℕ) → shelf_faults self.new any ≡ shelf_faults self.old any) }
+        ensures no_memory { IsErrOf result ShelfFault.NoMemory → (any : List ℕ) → shelf_faults self.new any ≡ shelf_faults self.old any }
         ensures failing { shelf_failing self.new ≡ shelf_failing self.old }
         ensures calls { shelf_calls self.new ≡ counted (shelf_calls self.old) }
     {
@@ -96,6 +102,7 @@ impl Shelf for MemShelf {
         }
     }
 
+    /// How often a load of that name failed.
     fn faults(&self, name: &str) -> u64 {
         self.failed.count(name)
     }
@@ -124,9 +131,11 @@ fn front(alloc: Global, text: &[u8], limit: u32) -> Result<Vec<u8>, ShelfFault>
     }
 }
 
-// Keeps the name of a load that failed.
+// Keeps the name of a load that failed, unless there is no memory.
 fn fail(alloc: Global, failed: &mut FaultNames, name: &str) -> ShelfFault
     ensures failed { result ≡ ShelfFault.Failed → Rose (fault_count failed.old name.now) (fault_count failed.new name.now) }
+    ensures counted { result ≡ ShelfFault.Failed → fault_count failed.new name.now ≡ fault_count failed.old name.now + 1 }
+    ensures no_memory { result ≡ ShelfFault.NoMemory → (any : List ℕ) → fault_count failed.new any ≡ fault_count failed.old any }
     ensures later { (any : List ℕ) → fault_count failed.old any ≤ fault_count failed.new any }
     ensures others { (other : List ℕ) → other ≢ name.now → fault_count failed.new other ≡ fault_count failed.old other }
 {

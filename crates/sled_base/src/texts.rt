@@ -1,5 +1,5 @@
 // A whole text, and all of the bytes.
-ghost use Rattle.std.specs.Prelude.{◌≡◌, ◌≢◌, ◌+◌, ◌<◌, ◌≤◌, ℕ, List, true, length, take, IfOk, IsErr, IsErrOf, OnOk, OnErr};
+ghost use Rattle.std.specs.Prelude.{◌≡◌, ◌≢◌, ◌+◌, ◌<◌, ◌≤◌, ℕ, List, true, false, length, take, IfOk, IsErr, IsErrOf, OnOk, OnErr};
 ghost use Rattle.std.specs.Option.{ForSome};
 ghost use Rattle.std.specs.Io.KnownBytes.{Appends};
 ghost use Rattle.sled_base.specs.Causes.{Rose, HasCause};
@@ -8,13 +8,15 @@ ghost use Rattle.sled_base.specs.Contents.{AppendsProperPrefix};
 use crate::{Failed, MAX_TEXT, Shelf, ShelfFault, Sink, TextFault};
 use std::alloc::Global;
 
-/// The whole text of a name. `TooLong` exactly where it has more than `MAX_TEXT` bytes, `Unread` only where the shelf's count
-/// for the name rose.
+/// The whole text of a name, of at most `MAX_TEXT` bytes. `TooLong` exactly where it has more. `Unread` where the load failed, which
+/// it does only where the shelf's count for the name rose; an absent name is never `TooLong`. `NoMemory` where there is no memory for the
+/// text. The counts of all other names stay, and no text changes.
 pub fn load_text<H: Shelf>(alloc: Global, shelf: &mut H, name: &str) -> Result<Vec<u8>, TextFault>
     ensures whole { IfOk result (λ v. ForSome (H.text shelf.old name.now) (λ t. v.items ≡ t)) }
     ensures length { IfOk result (λ v. length v.items ≤ MAX_TEXT) }
     ensures too_long { IsErrOf result TextFault.TooLong → ForSome (H.text shelf.old name.now) (λ t. MAX_TEXT < length t) }
     ensures lacking { H.lacks shelf.old name.now ≡ true → IsErr result }
+    ensures present { IsErrOf result TextFault.TooLong → H.lacks shelf.old name.now ≡ false }
     ensures unread { IsErrOf result TextFault.Unread → Rose (H.faults shelf.old name.now) (H.faults shelf.new name.now) }
     ensures later { (any : List ℕ) → H.faults shelf.old any ≤ H.faults shelf.new any }
     ensures others { (other : List ℕ) → other ≢ name.now → H.faults shelf.new other ≡ H.faults shelf.old other }
@@ -29,8 +31,8 @@ pub fn load_text<H: Shelf>(alloc: Global, shelf: &mut H, name: &str) -> Result<V
     }
 }
 
-/// Appends all bytes. After `Failed`, which comes only where the sink's count rose, a proper prefix was appended. Empty bytes
-/// are no write. Takes no memory.
+/// Appends all bytes, in as many writes as it takes. After `Failed`, which comes only where the sink's count rose, a proper prefix was
+/// appended. Empty bytes are Ok without a write. Takes no memory.
 pub fn write_all<O: Sink>(sink: &mut O, bytes: &[u8]) -> Result<(), Failed>
     ensures ok { OnOk result (Appends (O.contents sink.old) (O.contents sink.new) bytes.now) }
     ensures failed { OnErr result (AppendsProperPrefix (O.contents sink.old) (O.contents sink.new) bytes.now) }

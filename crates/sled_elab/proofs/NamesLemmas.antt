@@ -1,7 +1,10 @@
 -- Names seen through what holds them.
-use Rattle.std.proofs.Common.{◌≡◌, ℕ, suc, ◌+◌, Bool, true, false, cond, List, [], ◌∷◌, ◌++◌, length, Some, None, refl, sym, ap, ◌∙◌}
+use Rattle.std.proofs.Common.{◌≡◌, ℕ, suc, ◌+◌, Bool, true, false, cond, List, [], ◌∷◌, ◌++◌, length, get_or, All, AllPairs, zero, ◌-◌, ◌<◌, ◌≤◌, ◌≢◌, slice_get, Some, None, refl, sym, ap, ◌∙◌, arith}
+use Rattle.std.proofs.lemmas.List.Elements.{All-nil, All-cons}
+use Rattle.std.proofs.lemmas.List.Kept.{AllPairs-cons}
+use Rattle.std.proofs.lemmas.List.Quantifiers.{position-Some}
 use Rattle.std.proofs.lemmas.Slice.Eq.{bytes_eq-Decides}
-use Rattle.sled_elab.specs.Names.{is_among, are_distinct}
+use Rattle.sled_elab.specs.Names.{is_among, are_distinct, position_of}
 use Rattle.std.specs.Prelude.{map, not, nat_lt, ◌||◌, ◌&&◌, position, Option, bytes_eq}
 use Rattle.std.specs.List.{list_any, prefix_len}
 
@@ -79,3 +82,56 @@ distinct_false (n ∷ ns) ms y h = by_test (bytes_eq y n) refl h (distinct_false
 pub map-append : {A B : Type 0} (f : A → B) (xs ys : List A) → map f (xs ++ ys) ≡ map f xs ++ map f ys
 map-append f [] ys = refl
 map-append f (x ∷ xs) ys = ap (λ zs. f x ∷ zs) (map-append f xs ys)
+
+among_front : (ns ms : List (List ℕ)) (n : List ℕ) → is_among (ns ++ ms) n ≡ false → is_among ns n ≡ false
+among_front [] ms n h = refl
+among_front (m ∷ ns) ms n h = let parts = none_of (bytes_eq n m) (is_among (ns ++ ms) n) h in rw (parts.0, among_front ns ms n parts.1) refl
+
+apart_from : (ns : List (List ℕ)) (n : List ℕ) → is_among ns n ≡ false → All (λ other. n ≢ other) ns
+apart_from [] n h = All-nil (λ other. n ≢ other)
+apart_from (m ∷ ns) n h =
+    let parts = none_of (bytes_eq n m) (is_among ns n) h in
+    All-cons (λ other. n ≢ other) m ns (λ e. let yes = (bytes_eq-Decides n m).1 e in cc) (apart_from ns n parts.1)
+
+-- the front of names that differ
+pub distinct_front : (ns ms : List (List ℕ)) → are_distinct (ns ++ ms) ≡ true → are_distinct ns ≡ true
+distinct_front [] ms h = refl
+distinct_front (n ∷ ns) ms h =
+    let parts = both_of (not (is_among (ns ++ ms) n)) (are_distinct (ns ++ ms)) h in
+    rw (among_front ns ms n (not_true (is_among (ns ++ ms) n) parts.0), distinct_front ns ms parts.1) refl
+
+-- the next of names that differ is not among those before it
+pub distinct_next : (ns ms : List (List ℕ)) (y : List ℕ) → are_distinct (ns ++ y ∷ ms) ≡ true → is_among ns y ≡ false
+distinct_next ns ms y h = by_test (is_among ns y) refl where
+  by_test : (t : Bool) → is_among ns y ≡ t → t ≡ false
+  by_test true e = let bad = distinct_false ns ms y e in cc
+  by_test false e = refl
+
+-- names that differ, as a relation
+pub distinct_pairs : (ns : List (List ℕ)) → are_distinct ns ≡ true → AllPairs (λ one other. one ≢ other) ns
+distinct_pairs [] h = λ i j d below within. absurd (omega arith)
+distinct_pairs (n ∷ ns) h =
+    let parts = both_of (not (is_among ns n)) (are_distinct ns) h in
+    AllPairs-cons (λ one other. one ≢ other) n ns (apart_from ns n (not_true (is_among ns n) parts.0)) (distinct_pairs ns parts.1)
+
+-- ---- places of names
+
+slice_get-at : {A : Type 0} (xs : List A) (k : ℕ) (d : A) → k < length xs → slice_get xs k ≡ Some (get_or xs k d)
+slice_get-at [] k d h = absurd (omega arith)
+slice_get-at (x ∷ xs) zero d h = refl
+slice_get-at (x ∷ xs) (suc k) d h = slice_get-at xs k d (omega arith)
+
+-- what stands at the place of a name is the name
+pub position_found : (ns : List (List ℕ)) (name : List ℕ) (k : ℕ) → position_of ns name ≡ Some k → (k < length ns) × (slice_get ns k ≡ Some name)
+position_found ns name k e =
+    let at = position-Some (bytes_eq name) ns k [] e in
+    let same : name ≡ get_or ns k [] = (bytes_eq-Decides name (get_or ns k [])).0 at.1 in
+    (at.0, slice_get-at ns k [] at.0 ∙ ap Some (sym same))
+
+-- in one list behind another
+pub slice_get-append : {A : Type 0} (xs ys : List A) (k : ℕ) → length xs ≤ k → slice_get (xs ++ ys) k ≡ slice_get ys (k - length xs)
+slice_get-append [] ys k h = let same : k ≡ k - 0 = omega arith in ap (slice_get ys) same
+slice_get-append (x ∷ xs) ys zero h = absurd (omega arith)
+slice_get-append (x ∷ xs) ys (suc k) h =
+    let same : k - length xs ≡ suc k - suc (length xs) = omega arith in
+    slice_get-append xs ys k (omega arith) ∙ ap (slice_get ys) same

@@ -1,10 +1,10 @@
 -- What `results` is at each variant that holds patterns, seen as lists.
-use Rattle.std.proofs.Common.{◌≡◌, ℕ, List, [], ◌∷◌, map, refl, ap, ◌∙◌}
+use Rattle.std.proofs.Common.{◌≡◌, ℕ, List, ◌∷◌, map, refl, ap, ◌∙◌}
 use Rattle.sled_model.specs.declared.pattern.Pattern.{Pattern, Row_of-Pattern, end_of-Pattern, more_of-Pattern, items-the_row-Pattern, items_hidden-the_row-Pattern-1}
 use Rattle.sled_model.specs.declared.pattern.Argument.TheBlock.{hidden-the_row-Pattern-0, hidden-the_row-Pattern-1}
 use denote.Hole.Carrier.{hidden}
 use Rattle.sled_model.specs.declared.pattern.Pattern.TheVariants.{Both, Either, Chain, Label, Loose}
-use Rattle.sled_model.specs.Results.{Context, Meaning, results, row_meanings, fold_meanings, both, either, chain, label_meaning, loose_meaning}
+use Rattle.sled_model.specs.Results.{Context, results, row_meanings, fold_meanings, both, either, chain, label_meaning, loose_meaning}
 
 pub row_meanings-row : {n : _} (cx : Context) (ps : Row_of-Pattern n) → row_meanings cx ps ≡ map (results cx) (items-the_row-Pattern _ ps)
 row_meanings-row cx end_of-Pattern = refl

@@ -1,5 +1,5 @@
 -- One arm after another.
-use Rattle.std.proofs.Common.{◌≡◌, ℕ, ◌+◌, ◌<◌, Bool, true, false, List, [], ◌∷◌, length, drop, get_or, slice_get, All, Option, Some, None, refl, sym, ap, ◌∙◌, subst}
+use Rattle.std.proofs.Common.{◌≡◌, ℕ, ◌+◌, ◌<◌, Bool, true, false, List, [], ◌∷◌, length, drop, get_or, slice_get, All, Some, refl, sym, ap, ◌∙◌, subst}
 use Rattle.std.specs.Option.{IsSomeAnd}
 use Rattle.std.proofs.lemmas.List.{drop_more}
 use Rattle.std.proofs.lemmas.List.Elements.{All-get_or}
@@ -10,7 +10,7 @@ use Rattle.sled_model.specs.declared.spec.Spec.{Spec}
 use Rattle.sled_model.specs.declared.statement.Arm.{Arm}
 use Rattle.sled_model.specs.Results.{arm_context, arm_results}
 use Rattle.sled_model.specs.First.{first_from, first_or}
-use Rattle.sled_model.specs.Simple.{IsSimple, IsSimpleArm, MatchesSimply, simple_match, bare_fields}
+use Rattle.sled_model.specs.Simple.{IsSimpleArm, MatchesSimply, simple_match, bare_fields}
 
 module _ (spec : Spec) (arms : List Arm) (bytes : List ℕ) (k : ℕ) (arm : Arm) (within : k < length arms) (at : arm ≡ get_or arms k arm) where
   pub simple_arm_at : All (IsSimpleArm spec) arms → IsSimpleArm spec arm

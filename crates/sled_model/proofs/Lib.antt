@@ -9,3 +9,4 @@ pub mod FirstLemmas
 pub mod Front
 pub mod NameValues
 pub mod Worked
+mod TestTerms

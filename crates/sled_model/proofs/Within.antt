@@ -1,5 +1,5 @@
 -- Results that lie within the bytes.
-use Rattle.std.proofs.Common.{ℕ, ◌+◌, ◌≤◌, max, List, [], ◌∷◌, ◌++◌, map, filter, All, arith}
+use Rattle.std.proofs.Common.{ℕ, ◌+◌, ◌≤◌, max, List, [], ◌∷◌, map, filter, All, arith}
 use Rattle.std.specs.List.{flat_map}
 use Rattle.std.proofs.lemmas.List.Elements.{All-map, All-filter, All-weaker, All-append, All-nil, All-head, All-tail}
 use Rattle.sled_model.specs.declared.raw.Match.{Match}

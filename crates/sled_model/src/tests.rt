@@ -3,8 +3,8 @@ ghost use Rattle.sled_model.specs.Tokens.{AreTokens};
 ghost use Rattle.sled_model.specs.Simple.{IsOfClass};
 
 use crate::{
-    Argument, Class, ClassId, ConstructorId, Field, FieldId, Instance, LabelId, Operand, Order,
-    Pattern, Raw, RawEntry, Relation, Spec, Tokens, match_simple, results, simple_len,
+    Arm, Class, ConstructorId, Field, FieldId, Instance, Operand, Order, Pattern, RawEntry,
+    Relation, Spec, Statement, Tokens, first, first_simple, match_simple, results, simple_len,
 };
 use sled_base::NoMemory;
 use sqlite_items::{Boxed, Items};
@@ -155,5 +155,61 @@ fn a_label_behind_a_relation(rt: HostRuntime) -> Result<(), Fail> {
             })
         )
     );
+    Ok(())
+}
+
+/// The number of the first arm on the window, where the one arm is `field 0 = 1 & field 1`: by `first`, and by `first_simple`.
+fn firsts(alloc: Global, window: &[u8; 4]) -> Result<(Option<usize>, Option<usize>), NoMemory> {
+    let tokens = tokens(alloc, Order::Big, 24, 31)?;
+    let pattern = equal_and_bare(alloc, 1)?;
+    let spec = Spec {
+        tokens,
+        class_names: Items::new(alloc),
+        field_names: Items::new(alloc),
+        constructors: Items::new(alloc),
+    };
+    let mut arms = Items::new(alloc);
+    arms.push(Arm {
+        pattern,
+        names: Items::new(alloc),
+        action: Items::new(alloc),
+    })?;
+    let statement = Statement { arms, skip: None };
+    let slow = first(alloc, &spec, &statement, window)?.map(|found| found.0);
+    let mut values = Vec::new(alloc);
+    let fast = first_simple(&spec, &statement, window, &mut values)?;
+    Ok((slow, fast))
+}
+
+#[test]
+fn the_first_arm(rt: HostRuntime) -> Result<(), Fail> {
+    assert_eq!(rt; firsts(rt.alloc(), &[1, 0, 0, 5])?, (Some(0), Some(0)));
+    assert_eq!(rt; firsts(rt.alloc(), &[2, 0, 0, 5])?, (None, None));
+    Ok(())
+}
+
+#[test]
+fn names_and_copies(rt: HostRuntime) -> Result<(), Fail> {
+    let mut field_names = Items::new(rt.alloc());
+    field_names.push(Items::from_slice(rt.alloc(), b"op")?)?;
+    let spec = Spec {
+        tokens: Tokens::new(rt.alloc()),
+        class_names: Items::new(rt.alloc()),
+        field_names,
+        constructors: Items::new(rt.alloc()),
+    };
+    assert_eq!(rt; spec.field_name(FieldId(0)), Some(b"op".as_slice()));
+    let mut operands = Items::new(rt.alloc());
+    operands.push(Operand::Num(-3))?;
+    let inner = Instance {
+        constructor: ConstructorId(1),
+        operands: Items::new(rt.alloc()),
+    };
+    operands.push(Operand::Sub(Boxed::new(rt.alloc(), inner)?))?;
+    let instance = Instance {
+        constructor: ConstructorId(0),
+        operands,
+    };
+    assert_eq!(rt; instance.copy(rt.alloc())?.operands.len(), 2);
     Ok(())
 }

@@ -1,4 +1,4 @@
-use Rattle.std.proofs.Common.{◌≡◌, ◌<◌, length, arith, rules}
+use Rattle.std.proofs.Common.{◌≡◌, ◌<◌, ◌≤◌, ◌++◌, length, take, length-append, length-take, arith, rules}
 use Rattle.sled_base.proofs.ReadsLemmas.{Consumes-trans, consumed_end, consumed_front, consumed_none}
 use Rattle.sled_base.proofs.reads.read_up_to.Goals as goal
 
@@ -13,3 +13,12 @@ returns-then-count-eq0-clause-bytes g c =
 
 pub returns-clause-bytes : goal.returns-clause-bytes
 returns-clause-bytes g c = consumed_front _ _ c.loop-piece.held.items c.args.most c.loop-piece.invariant.read (omega (arith, c.loop-piece.invariant.within))
+
+pub returns-in_default-extend_from_slice-clause-lost : goal.returns-in_default-extend_from_slice-clause-lost
+returns-in_default-extend_from_slice-clause-lost g c =
+    let n = c.in-Ok.count in
+    let piece = c.read.new.buf in
+    let all = Consumes-trans _ _ _ c.loop-piece.held.items (take n piece) c.loop-piece.invariant.read c.in-Ok.ensures.bytes.0 in
+    let long = length-append c.loop-piece.held.items (take n piece) in
+    let room = length-take c.min-room.result c.loop-piece.piece in
+    (c.loop-piece.held.items ++ take n piece, omega (arith, long, room, c.in-Ok.ensures.bound), all)

@@ -9,6 +9,13 @@ returns-clause-failed c _ =
     let same = c.prepare.ensures.same c.args.name.now in
     omega (arith, one_more, same)
 
+pub returns-clause-counted : goal.returns-clause-counted
+returns-clause-counted c _ =
+    let count = fault_count c.keep.new.self in
+    let one_more = subst (λ (n : List ℕ). count n ≡ fault_count c.prepare.new.self n + 1) c.in-Ok.ensures.copy c.keep.ensures.counted in
+    let same = c.prepare.ensures.same c.args.name.now in
+    omega (arith, one_more, same)
+
 pub returns-clause-later : goal.returns-clause-later
 returns-clause-later c any = omega (arith, c.prepare.ensures.same any, c.keep.ensures.later any)
 

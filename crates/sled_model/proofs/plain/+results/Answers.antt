@@ -1,10 +1,9 @@
-use Rattle.std.proofs.Common.{◌≡◌, ◌+◌, ◌≤◌, ◌<◌, length, List, [], ◌∷◌, ◌++◌, map, filter, take, All, ap, sym, ◌∙◌, arith, subst, get_or}
+use Rattle.std.proofs.Common.{◌≡◌, ◌+◌, ◌≤◌, length, ◌++◌, map, filter, take, ap, sym, ◌∙◌, arith}
 use Rattle.std.proofs.lemmas.Result.{IfOk-weaker}
-use Rattle.std.proofs.lemmas.Grind.{common_steps}
-use Rattle.std.proofs.lemmas.List.Elements.{All-append, All-get_or}
+use Rattle.std.proofs.lemmas.List.Elements.{All-append}
 use Rattle.std.specs.List.{flat_map, fold}
 use Rattle.sled_model.specs.declared.raw.Match.{Match}
-use Rattle.sled_model.specs.Results.{alone, results as results_of, label_match, loose_match, chain_match, both_match, agrees, both}
+use Rattle.sled_model.specs.Results.{alone, results as results_of, label_match, chain_match, both_match, agrees, both}
 use Rattle.sled_model.proofs.Equations.{results-Label}
 use Rattle.sled_model.proofs.Lists.{flat_map_take, fold_take}
 use Rattle.sled_model.proofs.Within.{Within, Within-label, Within-loose, Within-chain, Within-both_all}

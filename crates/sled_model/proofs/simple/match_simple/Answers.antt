@@ -1,4 +1,4 @@
-use Rattle.std.proofs.Common.{◌≡◌, Bool, true, List, [], ◌++◌, ℕ, Result, Ok, Err, Option, Some, None, ap, ◌∙◌, option_and_then}
+use Rattle.std.proofs.Common.{◌≡◌, List, [], ◌++◌, ℕ, Result, Ok, Err, Some, ap, ◌∙◌, option_and_then}
 use Rattle.std.specs.Prelude.{IfOk}
 use Rattle.std.specs.List.{flat_map, list_all}
 use Rattle.sled_model.specs.declared.pattern.Pattern.{Pattern}

@@ -1,4 +1,4 @@
-use Rattle.std.proofs.Common.{◌≡◌, ◌<◌, ◌+◌, ◌*◌, ◌^◌, ℕ, List, ◌∷◌, [], ◌++◌, length, get_or, map, reverse, ap, ◌∙◌, sym, arith}
+use Rattle.std.proofs.Common.{◌≡◌, ◌<◌, ℕ, List, ◌∷◌, [], ◌++◌, length, get_or, map, ap, ◌∙◌, sym, arith}
 use denote.Bor.{Bor}
 use Rattle.std.proofs.lemmas.List.{map_push, length_push, length-map}
 use Rattle.sled_model.specs.Tokens.{number_of}
