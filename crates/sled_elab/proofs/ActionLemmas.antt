@@ -1,6 +1,6 @@
 -- The pieces of an action's text, run by run.
 use Rattle.std.proofs.Common.{◌≡◌, ◌≢◌, ℕ, suc, ◌+◌, ◌<◌, ◌≤◌, Bool, true, false, cond, List, [], ◌∷◌, ◌++◌, length, take, drop, get_or, Some, None, refl, sym, ap, ◌∙◌, subst, append-nil, append_assoc, arith}
-use Rattle.std.specs.Prelude.{Option, not, ◌&&◌, ◌==◌, nat_eq, option_map}
+use Rattle.std.specs.Prelude.{Option, not, ◌&&◌, nat_eq}
 use Rattle.std.proofs.Math.ListN.{drop_of_length-le}
 use Rattle.sled_elab.proofs.ListLemmas.{drop-here}
 use Rattle.std.proofs.lemmas.Bool.Decides.{nat_tests}

@@ -1,17 +1,14 @@
 -- Classes and their fields.
-use Rattle.std.proofs.Common.{◌≡◌, ℕ, suc, ◌+◌, ◌-◌, ◌^◌, ◌<◌, ◌≤◌, Bool, true, false, List, [], ◌∷◌, ◌++◌, length, map, take, drop, get_or, Some, None, All, slice_get, refl, sym, ap, ◌∙◌, subst, inl, inr, arith}
-use Rattle.std.specs.Prelude.{not, ◌&&◌, ◌||◌, ◌==◌, nat_eq, nat_le, nat_lt}
+use Rattle.std.proofs.Common.{◌≡◌, ℕ, ◌+◌, ◌^◌, ◌<◌, ◌≤◌, Bool, true, false, List, [], ◌∷◌, ◌++◌, length, map, take, drop, get_or, All, refl, sym, ap, ◌∙◌, inl, inr, arith}
+use Rattle.std.specs.Prelude.{◌&&◌, ◌||◌, nat_eq, nat_le, nat_lt}
 use Rattle.std.specs.List.{list_all}
-use Rattle.std.specs.Option.{IsSomeAnd}
 use Rattle.std.proofs.lemmas.Bool.Decides.{nat_tests}
 use Rattle.std.proofs.lemmas.List.Elements.{All-nil, All-cons}
 use Rattle.sled_lexer.specs.Spelled.{number_value}
 use Rattle.sled_parser.specs.declared.tree.FieldTree.{FieldTree}
 use Rattle.sled_model.specs.declared.tokens.Class.{Class}
-use Rattle.sled_model.specs.declared.tokens.Field.{Field}
 use Rattle.sled_model.specs.declared.tokens.Order.TheVariants.{Big}
-use Rattle.sled_model.specs.declared.spec.Spec.{Spec}
-use Rattle.sled_model.specs.Tokens.{AreTokens, IsWidth, IsFieldOf}
+use Rattle.sled_model.specs.Tokens.{IsWidth, IsFieldOf}
 use Rattle.sled_elab.specs.Names.{is_among, are_distinct}
 use Rattle.sled_elab.specs.Meaning.{field_of, class_spec}
 use Rattle.sled_elab.specs.Conditions.{is_class_width, is_field_of, has_widths, declares_once}

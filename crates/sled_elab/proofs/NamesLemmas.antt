@@ -5,7 +5,7 @@ use Rattle.std.proofs.lemmas.List.Kept.{AllPairs-cons}
 use Rattle.std.proofs.lemmas.List.Quantifiers.{position-Some}
 use Rattle.std.proofs.lemmas.Slice.Eq.{bytes_eq-Decides}
 use Rattle.sled_elab.specs.Names.{is_among, are_distinct, position_of}
-use Rattle.std.specs.Prelude.{map, not, nat_lt, ◌||◌, ◌&&◌, position, Option, bytes_eq}
+use Rattle.std.specs.Prelude.{map, not, nat_lt, ◌||◌, ◌&&◌, position, bytes_eq}
 use Rattle.std.specs.List.{list_any, prefix_len}
 
 pub list_any-map : {A B : Type 0} (p : B → Bool) (f : A → B) (xs : List A) → list_any p (map f xs) ≡ list_any (λ x. p (f x)) xs
@@ -116,7 +116,7 @@ distinct_pairs (n ∷ ns) h =
 
 -- ---- places of names
 
-slice_get-at : {A : Type 0} (xs : List A) (k : ℕ) (d : A) → k < length xs → slice_get xs k ≡ Some (get_or xs k d)
+pub slice_get-at : {A : Type 0} (xs : List A) (k : ℕ) (d : A) → k < length xs → slice_get xs k ≡ Some (get_or xs k d)
 slice_get-at [] k d h = absurd (omega arith)
 slice_get-at (x ∷ xs) zero d h = refl
 slice_get-at (x ∷ xs) (suc k) d h = slice_get-at xs k d (omega arith)

@@ -28,11 +28,11 @@ abbrev pub class_spec : List ℕ → List ℕ → Bool → List FieldTree → Sp
 class_spec name width little fields = record {
   tokens = record {
     classes = record { width = number_value width; order = if little then Little else Big } ∷ [];
-    fields = map field_of fields
+    fields = map field_of fields;
   };
   class_names = name ∷ [];
   field_names = map (λ (f : FieldTree). f.name) fields;
-  constructors = []
+  constructors = [];
 }
 
 -- the description that declarations make: built is one class
@@ -49,7 +49,7 @@ abbrev pub arm_of : Spec → ArmTree → Arm
 arm_of spec arm = record {
   pattern = arm_pattern spec arm.pattern;
   names = arm_names spec arm;
-  action = unwrap_or (action_pieces (arm_names spec arm) (unquoted arm.action)) []
+  action = unwrap_or (action_pieces (arm_names spec arm) (unquoted arm.action)) [];
 }
 
 abbrev pub listed_arms : ArmsTree → List ArmTree

@@ -13,7 +13,8 @@ use crate::names::NameTable;
 use sled_base::NoMemory;
 use sled_lexer::{number_in_range, number_value};
 use sled_model::{
-    Class, ClassId, ClassList, ConstructorList, Field, FieldList, Name, NameList, Order, Spec, Tokens,
+    Class, ClassId, ClassList, ConstructorList, Field, FieldList, Name, NameList, Order, Spec,
+    Tokens,
 };
 use sled_parser::tree::{Decl, FieldTree};
 use std::alloc::Global;

@@ -1,8 +1,8 @@
-//! The program's one call, `run`, and what it stands on: words, texts, the listing, and the edge to the real world.
+//! What declarations and arms stand for: the model of a description and of a statement, or the first that lacks something.
+//!
+//! Built so far are descriptions of at most one token class, and listed arms of words and equalities with `&` between. Each other form
+//! of the language is refused as not built, with the number of its declaration or arm.
 #![tactic(auto)]
-
-ghost use Rattle.sled_elab.specs.Conditions.{statement_lack};
-ghost use Rattle.sled_elab.specs.Meaning.{statement_of};
 
 mod action;
 mod description;
@@ -10,3 +10,9 @@ mod lack;
 mod names;
 mod statement;
 mod terms;
+#[cfg(test)]
+mod tests;
+
+pub use description::elaborate;
+pub use lack::{ElabFault, Lack};
+pub use statement::elaborate_match;

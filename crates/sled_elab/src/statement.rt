@@ -101,12 +101,7 @@ fn arms(
     Ok(arms)
 }
 
-fn arm(
-    alloc: Global,
-    spec: &Spec,
-    names: &NameTable<'_>,
-    tree: &ArmTree,
-) -> Result<Arm, ArmFault>
+fn arm(alloc: Global, spec: &Spec, names: &NameTable<'_>, tree: &ArmTree) -> Result<Arm, ArmFault>
     requires scope { IsScope spec.now names.now }
     requires few { HasFewTerms tree.now }
     ensures made { IfOk result (λ arm. arm ≡ arm_of spec.now tree.now) }
@@ -209,7 +204,8 @@ fn bound_table<'a>(
 // Adds the name, if there is one, and answers whether it was not there yet.
 fn add_bound<'a>(table: &mut NameTable<'a>, name: Option<&'a Name>) -> Result<bool, NoMemory>
     ensures { IfOk result (λ new. MatchBool new
-        (table_names table.new ≡ table_names table.old ++ option_to_list (option_map (λ x. x.now) name.entry))
+        ((list_any (is_among (table_names table.old)) (option_to_list (option_map (λ x. x.now) name.entry)) ≡ false)
+        × (table_names table.new ≡ table_names table.old ++ option_to_list (option_map (λ x. x.now) name.entry)))
         (list_any (is_among (table_names table.old)) (option_to_list (option_map (λ x. x.now) name.entry)) ≡ true)) }
 {
     match name {

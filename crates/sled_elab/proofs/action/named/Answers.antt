@@ -3,7 +3,6 @@ use Rattle.sled_elab.specs.NameTables.{table_names}
 use Rattle.sled_elab.specs.Names.{position_of}
 use Rattle.sled_elab.specs.Actions.{outside, bound_piece}
 use Rattle.std.specs.Prelude.{Option}
-use Rattle.sled_model.specs.declared.statement.Piece.{Piece}
 use Rattle.sled_elab.proofs.ActionLemmas.{inside_end, inside_close, named_step}
 use Rattle.std.proofs.lemmas.List.{length-drop}
 use Rattle.sled_elab.proofs.action.named.Goals as goal
@@ -24,8 +23,7 @@ returns c =
     let names : List (List ℕ) = table_names c.args.names.now in
     let xs : List ℕ = c.args.after.now in
     let n : ℕ = c.name_len-len.result in
-    let at : position_of names (take n xs) ≡ Some c.in-Some.k = ap (position_of names) (sym c.front.ensures) ∙ sym c.in-Some.ensures in
-    (
+    let at : position_of names (take n xs) ≡ Some c.in-Some.k = ap (position_of names) (sym c.front.ensures) ∙ sym c.in-Some.ensures in (
       named_step names c.args.found.now c.push.new.self _ (position_of names (take n xs)) c.in-Some.k (outside names [] c.tail.result.now)
           (inside_close names xs n c.name_len-len.ensures.value (omega arith) ∙ ap (λ (r : List ℕ). bound_piece (position_of names (take n xs)) (outside names [] r)) (sym c.tail.ensures))
           at c.in_ok-push.ensures.ok,

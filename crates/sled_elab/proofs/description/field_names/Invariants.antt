@@ -1,4 +1,4 @@
-use Rattle.std.proofs.Common.{◌≡◌, ℕ, List, map, take}
+use Rattle.std.proofs.Common.{◌≡◌, map, take}
 use Rattle.sled_parser.specs.declared.tree.FieldTree.{FieldTree}
 use Rattle.sled_elab.proofs.description.field_names.Given as goal
 

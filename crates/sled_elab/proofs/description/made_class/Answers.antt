@@ -1,4 +1,3 @@
-use Rattle.std.proofs.Common.{arith}
 use Rattle.sled_lexer.specs.Spelled.{number_value}
 use Rattle.sled_elab.proofs.DescriptionLemmas.{width_small, wider_fields, both_of}
 use Rattle.sled_elab.proofs.description.made_class.Goals as goal

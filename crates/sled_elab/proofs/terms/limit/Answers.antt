@@ -1,10 +1,5 @@
-use Rattle.std.proofs.Common.{◌≡◌, ℕ, Some, sym, ap, ◌∙◌, arith}
-use Rattle.std.specs.Prelude.{Option, option_map}
+use Rattle.std.proofs.Common.{sym, arith}
 use Rattle.sled_lexer.specs.Spelled.{number_value}
-use Rattle.sled_model.specs.declared.pattern.Pattern.{Pattern}
-use Rattle.sled_model.specs.declared.pattern.Pattern.TheVariants.{Limit}
-use Rattle.sled_model.specs.declared.pattern.Relation.{Relation}
-use Rattle.sled_elab.specs.Terms.{relation_of}
 use Rattle.sled_elab.proofs.TermLemmas.{fits_small}
 use Rattle.sled_elab.proofs.terms.limit.Goals as goal
 

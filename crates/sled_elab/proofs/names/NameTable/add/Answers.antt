@@ -1,4 +1,4 @@
-use Rattle.std.proofs.Common.{◌≡◌, sym, ap, ◌∙◌}
+use Rattle.std.proofs.Common.{sym, ap, ◌∙◌}
 use Rattle.std.specs.Prelude.{not, bytes_eq}
 use Rattle.sled_elab.proofs.NamesLemmas.{list_any-map}
 use Rattle.sled_elab.proofs.names.NameTable.add.Goals as goal

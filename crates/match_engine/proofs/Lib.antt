@@ -1,0 +1,6 @@
+pub mod Addresses
+pub mod Places
+pub mod Taken
+pub mod Steps
+pub mod Images
+pub mod Worked

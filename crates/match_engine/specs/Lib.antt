@@ -1,0 +1,4 @@
+pub mod Listing
+pub mod Listed
+pub mod Lines
+pub mod Example
