@@ -54,6 +54,15 @@ abbrev pub Settles : Option Words → Shelved → Settled → Type 0
 Settles None shelf s = s ≡ no_form
 Settles (Some words) shelf s = SettlesDis words shelf s
 
+-- the text of that name is told
+abbrev pub IsToldText : Shelved → List ℕ → Type 0
+IsToldText shelf name = (t : List ℕ) × (shelf.text name ≡ Some t)
+
+-- both texts are told, where words ask for them
+abbrev pub TellsTexts : Option Words → Shelved → Type 0
+TellsTexts None shelf = Unit {0}
+TellsTexts (Some words) shelf = IsToldText shelf words.spec × IsToldText shelf words.matching
+
 -- ---- what is written and answered
 
 pub record Reply : Type 0 where

@@ -6,7 +6,7 @@ ghost use Rattle.sled_base.specs.Causes.{Rose};
 ghost use Rattle.sled_model.specs.OneToken.{IsOneTokenStatement};
 ghost use Rattle.toolkit_cli.specs.CommandWords.{command_words};
 ghost use Rattle.toolkit_cli.specs.Words.{words_of};
-ghost use Rattle.toolkit_cli.specs.Reply.{Settles, SettlesDis, accepted};
+ghost use Rattle.toolkit_cli.specs.Reply.{Settled, Settles, SettlesDis, TellsTexts, accepted, reply};
 ghost use Rattle.toolkit_cli.specs.Stands.{Stands, StopTold, InputUnread, Unread, UnreadByWords, Answered, IsAnswer, IsReply, IsUnread, IsUnwritten, IsForgone};
 
 use crate::messages::Problem;
@@ -34,6 +34,13 @@ pub fn run<H: Shelf, I: Source, O: Sink, E: Sink>(
 ) -> Status
     // Done, Refused and Usage come only where output, notes and status are those of the reply to what words and texts come to.
     ensures answered { IsAnswer result → Answered (Settles (words_of (map string_bytes words.now)) (record { text = H.text shelf.old; lacks = H.lacks shelf.old })) (I.left input.old) (IsReply
+        (record { old = O.contents out.old; new = O.contents out.new; count = O.faults out.old; new_count = O.faults out.new })
+        (record { old = E.contents notes.old; new = E.contents notes.new; count = E.faults notes.old; new_count = E.faults notes.new })
+        result) }
+
+    // Where the texts are told, they are those of the reply to anything that words and texts come to: it is one thing at most.
+    ensures only { IsAnswer result → (s : Settled) → TellsTexts (words_of (map string_bytes words.now)) (record { text = H.text shelf.old; lacks = H.lacks shelf.old }) → Settles (words_of (map string_bytes words.now)) (record { text = H.text shelf.old; lacks = H.lacks shelf.old }) s
+        → ForSome (reply s (I.left input.old)) (IsReply
         (record { old = O.contents out.old; new = O.contents out.new; count = O.faults out.old; new_count = O.faults out.new })
         (record { old = E.contents notes.old; new = E.contents notes.new; count = E.faults notes.old; new_count = E.faults notes.new })
         result) }

@@ -1,0 +1,252 @@
+-- What a text comes to is unique: one meaning or one refusal, and never both; and so is what words and texts come to.
+use Rattle.std.proofs.Common.{◌≡◌, ℕ, ◌<◌, ◌≤◌, inl, inr, List, length, Some, None, refl, sym, ◌∙◌, ap, subst, arith}
+use Rattle.std.specs.Prelude.{Option}
+use Rattle.sled_base.specs.declared.limits.TheConstants.{MAX_TEXT}
+use Rattle.sled_lexer.specs.declared.Lexeme.{Lexeme}
+use Rattle.sled_lexer.specs.declared.LexFault.{LexFault}
+use Rattle.sled_lexer.specs.declared.LexFault.TheVariants as lex
+use Rattle.sled_lexer.specs.Lexemes.{IsLexFault}
+use Rattle.sled_lexer.proofs.Exact.{one_list, one_fault, list_or_fault}
+use Rattle.sled_parser.specs.Pieces.{Input, pieces}
+use Rattle.sled_parser.specs.Nesting.{nest_fault}
+use Rattle.sled_parser.specs.Declarations.{IsDescription}
+use Rattle.sled_parser.specs.Statements.{IsStatement}
+use Rattle.sled_parser.proofs.OnlyDescription.{one_description}
+use Rattle.sled_parser.proofs.Only.{one_statement}
+use Rattle.sled_model.specs.declared.spec.Spec.{Spec}
+use Rattle.sled_model.specs.declared.statement.Statement.{Statement}
+use Rattle.sled_elab.specs.declared.lack.Lack.{Lack}
+use Rattle.sled_elab.specs.Conditions.{description_lack, statement_lack}
+use Rattle.sled_elab.specs.Meaning.{spec_of, statement_of}
+use Rattle.toolkit_cli.specs.declared.messages.Unit.{Unit as Part}
+use Rattle.toolkit_cli.specs.declared.messages.Unit.TheVariants as part
+use Rattle.toolkit_cli.specs.declared.messages.Problem.{Problem}
+use Rattle.toolkit_cli.specs.declared.messages.Problem.TheVariants as problem
+use Rattle.toolkit_cli.specs.Words.{Words}
+use Rattle.toolkit_cli.specs.Texts.{IsLexed, IsParsed, IsNoSentence, NestsDeep, IsRefused, IsDescribed, RefusesDescription, IsStated, RefusesStatement, lack_problem}
+use Rattle.std.specs.Option.{ForSome}
+use Rattle.toolkit_cli.specs.Reply.{Settled, Shelved, no_form, refused_text, accepted, SettlesDis, Settles, TellsTexts, Reply, reply}
+use Rattle.toolkit_cli.specs.Stands.{Answered}
+
+-- ---- where the reading of a text ends
+
+data Stage (T : Type 0) : Type 0 where
+  too_long : Stage T
+  fault : LexFault → Stage T
+  deep : ℕ → Stage T
+  no_sentence : Stage T
+  read : T → Stage T
+
+abbrev EndsAt : {T : Type 0} → (Input → T → Type 0) → List ℕ → Stage T → Type 0
+EndsAt IsTree text too_long = MAX_TEXT < length text
+EndsAt IsTree text (fault f) = (length text ≤ MAX_TEXT) × IsLexFault text f
+EndsAt IsTree text (deep place) = NestsDeep text place
+EndsAt IsTree text no_sentence = IsNoSentence IsTree text
+EndsAt IsTree text (read tree) = IsParsed IsTree text tree
+
+abbrev lex_problem : LexFault → Option Problem
+lex_problem (lex.BadByte place) = Some (problem.BadByte place)
+lex_problem (lex.OpenText place) = Some (problem.OpenText place)
+lex_problem (lex.NumberTooBig place) = Some (problem.NumberTooBig place)
+lex_problem lex.NoMemory = None
+
+abbrev found_problem : Part → Option (ℕ × Lack) → Option Problem
+found_problem unit None = None
+found_problem unit (Some (number, what)) = Some (lack_problem unit number what)
+
+-- what a text is refused for that ends there
+abbrev stage_problem : {T : Type 0} → (T → Option (ℕ × Lack)) → Part → Stage T → Option Problem
+stage_problem lacks unit too_long = Some problem.TooLong
+stage_problem lacks unit (fault f) = lex_problem f
+stage_problem lacks unit (deep place) = Some (problem.Nesting place)
+stage_problem lacks unit no_sentence = Some problem.Syntax
+stage_problem lacks unit (read tree) = found_problem unit (lacks tree)
+
+-- ---- there is one such end
+
+long_and_short : {A : Type 0} (text : List ℕ) → MAX_TEXT < length text → length text ≤ MAX_TEXT → A
+long_and_short text long short = absurd (omega (arith, long, short))
+
+fault_and_lexed : {A : Type 0} (text : List ℕ) (f : LexFault) (ls : List Lexeme) → IsLexFault text f → IsLexed text ls → A
+fault_and_lexed text f ls is lexed = absurd (list_or_fault text ls f lexed.listed lexed.range is)
+
+one_lexed : (text : List ℕ) (ls ms : List Lexeme) → IsLexed text ls → IsLexed text ms → ls ≡ ms
+one_lexed text ls ms a b = one_list text ls ms a.listed b.listed
+
+one_nesting : (text : List ℕ) (ls ms : List Lexeme) (x y : Option ℕ) → IsLexed text ls → IsLexed text ms → nest_fault text ls ≡ x → nest_fault text ms ≡ y → x ≡ y
+one_nesting text ls ms x y a b is_x is_y = sym is_x ∙ ap (nest_fault text) (one_lexed text ls ms a b) ∙ is_y
+
+deep_and_shallow : {A : Type 0} (text : List ℕ) (place : ℕ) (ls : List Lexeme) → NestsDeep text place → IsLexed text ls → nest_fault text ls ≡ None → A
+deep_and_shallow text place ls d lexed shallow =
+    let clash : Some place ≡ None = one_nesting text d.lexemes ls (Some place) None d.lexed lexed d.deep shallow in
+    absurd cc
+
+one_place : (text : List ℕ) (p q : ℕ) → NestsDeep text p → NestsDeep text q → p ≡ q
+one_place text p q a b =
+    let same : Some p ≡ Some q = one_nesting text a.lexemes b.lexemes (Some p) (Some q) a.lexed b.lexed a.deep b.deep in
+    cc
+
+none_and_tree : {T A : Type 0} (IsTree : Input → T → Type 0) (text : List ℕ) (tree : T) → IsNoSentence IsTree text → IsParsed IsTree text tree → A
+none_and_tree IsTree text tree n p =
+    absurd (n.none tree (subst (λ (ls : List Lexeme). IsTree (pieces text ls) tree) (one_lexed text p.lexemes n.lexemes p.lexed n.lexed) p.reads))
+
+one_tree : {T : Type 0} (IsTree : Input → T → Type 0) → ((i : Input) (s t : T) → IsTree i s → IsTree i t → s ≡ t) → (text : List ℕ) (s t : T) → IsParsed IsTree text s → IsParsed IsTree text t → s ≡ t
+one_tree IsTree only text s t a b =
+    only (pieces text b.lexemes) s t (subst (λ (ls : List Lexeme). IsTree (pieces text ls) s) (one_lexed text a.lexemes b.lexemes a.lexed b.lexed) a.reads) b.reads
+
+one_stage : {T : Type 0} (IsTree : Input → T → Type 0) → ((i : Input) (s t : T) → IsTree i s → IsTree i t → s ≡ t) → (text : List ℕ) (a b : Stage T) → EndsAt IsTree text a → EndsAt IsTree text b → a ≡ b
+one_stage IsTree only text too_long too_long x y = refl
+one_stage IsTree only text too_long (fault g) x y = long_and_short text x y.0
+one_stage IsTree only text too_long (deep q) x y = long_and_short text x y.lexed.short
+one_stage IsTree only text too_long no_sentence x y = long_and_short text x y.lexed.short
+one_stage IsTree only text too_long (read t) x y = long_and_short text x y.lexed.short
+one_stage IsTree only text (fault f) too_long x y = long_and_short text y x.0
+one_stage IsTree only text (fault f) (fault g) x y = ap fault (one_fault text f g x.1 y.1)
+one_stage IsTree only text (fault f) (deep q) x y = fault_and_lexed text f y.lexemes x.1 y.lexed
+one_stage IsTree only text (fault f) no_sentence x y = fault_and_lexed text f y.lexemes x.1 y.lexed
+one_stage IsTree only text (fault f) (read t) x y = fault_and_lexed text f y.lexemes x.1 y.lexed
+one_stage IsTree only text (deep p) too_long x y = long_and_short text y x.lexed.short
+one_stage IsTree only text (deep p) (fault g) x y = fault_and_lexed text g x.lexemes y.1 x.lexed
+one_stage IsTree only text (deep p) (deep q) x y = ap deep (one_place text p q x y)
+one_stage IsTree only text (deep p) no_sentence x y = deep_and_shallow text p y.lexemes x y.lexed y.shallow
+one_stage IsTree only text (deep p) (read t) x y = deep_and_shallow text p y.lexemes x y.lexed y.shallow
+one_stage IsTree only text no_sentence too_long x y = long_and_short text y x.lexed.short
+one_stage IsTree only text no_sentence (fault g) x y = fault_and_lexed text g x.lexemes y.1 x.lexed
+one_stage IsTree only text no_sentence (deep q) x y = deep_and_shallow text q x.lexemes y x.lexed x.shallow
+one_stage IsTree only text no_sentence no_sentence x y = refl
+one_stage IsTree only text no_sentence (read t) x y = none_and_tree IsTree text t x y
+one_stage IsTree only text (read s) too_long x y = long_and_short text y x.lexed.short
+one_stage IsTree only text (read s) (fault g) x y = fault_and_lexed text g x.lexemes y.1 x.lexed
+one_stage IsTree only text (read s) (deep q) x y = deep_and_shallow text q x.lexemes y x.lexed x.shallow
+one_stage IsTree only text (read s) no_sentence x y = none_and_tree IsTree text s y x
+one_stage IsTree only text (read s) (read t) x y = ap read (one_tree IsTree only text s t x y)
+
+-- ---- a refusal tells where the reading ends
+
+record IsEnd {T : Type 0} (IsTree : Input → T → Type 0) (lacks : T → Option (ℕ × Lack)) (unit : Part) (text : List ℕ) (found : Option Problem) : Type 0 where
+  pub stage : Stage T
+  pub ends : EndsAt IsTree text stage
+  pub is : stage_problem lacks unit stage ≡ found
+
+refused_end : {T : Type 0} (IsTree : Input → T → Type 0) (lacks : T → Option (ℕ × Lack)) (unit : Part) (text : List ℕ) (p : Problem) → IsRefused IsTree lacks unit text p → IsEnd IsTree lacks unit text (Some p)
+refused_end IsTree lacks unit text problem.Unread h = absurd h
+refused_end IsTree lacks unit text problem.TooLong h = record { stage = too_long; ends = h; is = refl }
+refused_end IsTree lacks unit text (problem.BadByte place) h = record { stage = fault (lex.BadByte place); ends = h; is = refl }
+refused_end IsTree lacks unit text (problem.OpenText place) h = record { stage = fault (lex.OpenText place); ends = h; is = refl }
+refused_end IsTree lacks unit text (problem.NumberTooBig place) h = record { stage = fault (lex.NumberTooBig place); ends = h; is = refl }
+refused_end IsTree lacks unit text problem.Syntax h = record { stage = no_sentence; ends = h; is = refl }
+refused_end IsTree lacks unit text (problem.Nesting place) h = record { stage = deep place; ends = h; is = refl }
+refused_end IsTree lacks unit text (problem.Unmet what number condition) h = record {
+  stage = read h.1.tree;
+  ends = h.1.parsed;
+  is = ap (found_problem unit) h.1.lack ∙ ap (λ (w : Part). Some (problem.Unmet w number condition)) (sym h.0);
+}
+refused_end IsTree lacks unit text (problem.NoMatch address) h = absurd h
+refused_end IsTree lacks unit text (problem.AddressEnd address) h = absurd h
+refused_end IsTree lacks unit text (problem.NotBuilt what number) h = record {
+  stage = read h.1.tree;
+  ends = h.1.parsed;
+  is = ap (found_problem unit) h.1.lack ∙ ap (λ (w : Part). Some (problem.NotBuilt w number)) (sym h.0);
+}
+
+one_found : {T : Type 0} (IsTree : Input → T → Type 0) → ((i : Input) (s t : T) → IsTree i s → IsTree i t → s ≡ t) → (lacks : T → Option (ℕ × Lack)) (unit : Part) (text : List ℕ) (x y : Option Problem)
+    → IsEnd IsTree lacks unit text x → IsEnd IsTree lacks unit text y → x ≡ y
+one_found IsTree only lacks unit text x y a b = sym a.is ∙ ap (stage_problem lacks unit) (one_stage IsTree only text a.stage b.stage a.ends b.ends) ∙ b.is
+
+-- ---- a text has one refusal at most, and none where it lacks nothing
+
+pub one_refusal : {T : Type 0} (IsTree : Input → T → Type 0) → ((i : Input) (s t : T) → IsTree i s → IsTree i t → s ≡ t) → (lacks : T → Option (ℕ × Lack)) (unit : Part) (text : List ℕ) (p q : Problem)
+    → IsRefused IsTree lacks unit text p → IsRefused IsTree lacks unit text q → p ≡ q
+one_refusal IsTree only lacks unit text p q a b =
+    let same : Some p ≡ Some q = one_found IsTree only lacks unit text (Some p) (Some q) (refused_end IsTree lacks unit text p a) (refused_end IsTree lacks unit text q b) in
+    cc
+
+pub whole_stands : {T : Type 0} (IsTree : Input → T → Type 0) → ((i : Input) (s t : T) → IsTree i s → IsTree i t → s ≡ t) → (lacks : T → Option (ℕ × Lack)) (unit : Part) (text : List ℕ) (tree : T) (p : Problem)
+    → IsParsed IsTree text tree → lacks tree ≡ None → ¬ IsRefused IsTree lacks unit text p
+whole_stands IsTree only lacks unit text tree p parsed met h =
+    let clash : None ≡ Some p = one_found IsTree only lacks unit text None (Some p) (record { stage = read tree; ends = parsed; is = ap (found_problem unit) met }) (refused_end IsTree lacks unit text p h) in
+    absurd cc
+
+-- ---- descriptions
+
+pub one_described : (text : List ℕ) (a b : Spec) → IsDescribed text a → IsDescribed text b → a ≡ b
+one_described text a b x y = x.same ∙ ap spec_of (one_tree IsDescription one_description text x.tree y.tree x.parsed y.parsed) ∙ sym y.same
+
+pub described_stands : (text : List ℕ) (a : Spec) (p : Problem) → IsDescribed text a → ¬ RefusesDescription text p
+described_stands text a p x h = whole_stands IsDescription one_description description_lack part.Declaration text x.tree p x.parsed x.met h
+
+pub one_refusal_of_spec : (text : List ℕ) (p q : Problem) → RefusesDescription text p → RefusesDescription text q → p ≡ q
+one_refusal_of_spec text p q x y = one_refusal IsDescription one_description description_lack part.Declaration text p q x y
+
+-- ---- statements over a description
+
+pub one_stated : (spec : Spec) (text : List ℕ) (a b : Statement) → IsStated spec text a → IsStated spec text b → a ≡ b
+one_stated spec text a b x y = x.same ∙ ap (statement_of spec) (one_tree IsStatement one_statement text x.tree y.tree x.parsed y.parsed) ∙ sym y.same
+
+pub stated_stands : (spec : Spec) (text : List ℕ) (a : Statement) (p : Problem) → IsStated spec text a → ¬ RefusesStatement spec text p
+stated_stands spec text a p x h = whole_stands IsStatement one_statement (statement_lack spec) part.Arm text x.tree p x.parsed x.met h
+
+pub one_refusal_of_match : (spec : Spec) (text : List ℕ) (p q : Problem) → RefusesStatement spec text p → RefusesStatement spec text q → p ≡ q
+one_refusal_of_match spec text p q x y = one_refusal IsStatement one_statement (statement_lack spec) part.Arm text p q x y
+
+-- ---- what words and texts come to
+
+-- where SPEC is refused it comes to that, whatever MATCH is
+pub settled_by_spec : (words : Words) (shelf : Shelved) (t : List ℕ) (p : Problem) (a : Settled) → shelf.text words.spec ≡ Some t → RefusesDescription t p → SettlesDis words shelf a → a ≡ refused_text words.spec p
+settled_by_spec words shelf t p no_form told refuses x = absurd x
+settled_by_spec words shelf t p (refused_text name q) told refuses (inl h) = ap (λ (n : List ℕ). refused_text n q) h.0 ∙ ap (refused_text words.spec) (one_refusal_of_spec t q p (h.1.1 t told) refuses)
+settled_by_spec words shelf t p (refused_text name q) told refuses (inr h) = absurd (described_stands t h.1.0 p (h.1.1.1 t told) refuses)
+settled_by_spec words shelf t p (accepted spec statement base) told refuses x = absurd (described_stands t spec p (x.1.1 t told) refuses)
+
+-- where SPEC makes a description and MATCH is refused over it, it comes to that
+pub settled_by_match : (words : Words) (shelf : Shelved) (t m : List ℕ) (spec : Spec) (p : Problem) (a : Settled) → shelf.text words.spec ≡ Some t → shelf.text words.matching ≡ Some m
+    → IsDescribed t spec → RefusesStatement spec m p → SettlesDis words shelf a → a ≡ refused_text words.matching p
+settled_by_match words shelf t m spec p no_form told_spec told_match makes refuses x = absurd x
+settled_by_match words shelf t m spec p (refused_text name q) told_spec told_match makes refuses (inl h) = absurd (described_stands t spec q makes (h.1.1 t told_spec))
+settled_by_match words shelf t m spec p (refused_text name q) told_spec told_match makes refuses (inr h) =
+    let over : RefusesStatement spec m q = subst (λ (s : Spec). RefusesStatement s m q) (one_described t h.1.0 spec (h.1.1.1 t told_spec) makes) (h.1.2.1 m told_match) in
+    ap (λ (n : List ℕ). refused_text n q) h.0 ∙ ap (refused_text words.matching) (one_refusal_of_match spec m q p over refuses)
+settled_by_match words shelf t m spec p (accepted other statement base) told_spec told_match makes refuses x =
+    absurd (stated_stands spec m statement p (subst (λ (s : Spec). IsStated s m statement) (one_described t other spec (x.1.1 t told_spec) makes) (x.2.1 m told_match)) refuses)
+
+-- where both are accepted it comes to what they make, with the base of the words
+pub settled_by_both : (words : Words) (shelf : Shelved) (t m : List ℕ) (spec : Spec) (statement : Statement) (a : Settled) → shelf.text words.spec ≡ Some t → shelf.text words.matching ≡ Some m
+    → IsDescribed t spec → IsStated spec m statement → SettlesDis words shelf a → a ≡ accepted spec statement words.base
+settled_by_both words shelf t m spec statement no_form told_spec told_match makes states x = absurd x
+settled_by_both words shelf t m spec statement (refused_text name q) told_spec told_match makes states (inl h) = absurd (described_stands t spec q makes (h.1.1 t told_spec))
+settled_by_both words shelf t m spec statement (refused_text name q) told_spec told_match makes states (inr h) =
+    absurd (stated_stands spec m statement q states (subst (λ (s : Spec). RefusesStatement s m q) (one_described t h.1.0 spec (h.1.1.1 t told_spec) makes) (h.1.2.1 m told_match)))
+settled_by_both words shelf t m spec statement (accepted other stated base) told_spec told_match makes states x =
+    let same : other ≡ spec = one_described t other spec (x.1.1 t told_spec) makes in
+    let over : IsStated spec m stated = subst (λ (s : Spec). IsStated s m stated) same (x.2.1 m told_match) in
+    ap (λ (s : Spec). accepted s stated base) same ∙ ap (λ (s : Statement). accepted spec s base) (one_stated spec m stated statement over states) ∙ ap (accepted spec statement) x.0
+
+-- all that they come to is one
+record Comes (words : Words) (shelf : Shelved) : Type 0 where
+  pub to : Settled
+  pub only : (a : Settled) → SettlesDis words shelf a → a ≡ to
+
+comes : (words : Words) (shelf : Shelved) (t m : List ℕ) (a : Settled) → shelf.text words.spec ≡ Some t → shelf.text words.matching ≡ Some m → SettlesDis words shelf a → Comes words shelf
+comes words shelf t m no_form told_spec told_match x = absurd x
+comes words shelf t m (refused_text name p) told_spec told_match (inl h) = record { to = refused_text words.spec p; only = λ b y. settled_by_spec words shelf t p b told_spec (h.1.1 t told_spec) y }
+comes words shelf t m (refused_text name p) told_spec told_match (inr h) =
+    record { to = refused_text words.matching p; only = λ b y. settled_by_match words shelf t m h.1.0 p b told_spec told_match (h.1.1.1 t told_spec) (h.1.2.1 m told_match) y }
+comes words shelf t m (accepted spec statement base) told_spec told_match x =
+    record { to = accepted spec statement words.base; only = λ b y. settled_by_both words shelf t m spec statement b told_spec told_match (x.1.1 t told_spec) (x.2.1 m told_match) y }
+
+-- words and told texts come to one thing at most
+pub one_settled : (words : Words) (shelf : Shelved) (spec matching : List ℕ) (a b : Settled) → shelf.text words.spec ≡ Some spec → shelf.text words.matching ≡ Some matching
+    → SettlesDis words shelf a → SettlesDis words shelf b → a ≡ b
+one_settled words shelf spec matching a b told_spec told_match x y =
+    let c = comes words shelf spec matching a told_spec told_match x in
+    c.only a x ∙ sym (c.only b y)
+
+-- so where they ask for nothing
+pub one_settled_unasked : (shelf : Shelved) (a b : Settled) → Settles None shelf a → Settles None shelf b → a ≡ b
+one_settled_unasked shelf a b x y = x ∙ sym y
+
+-- where all texts are told, what holds of the reply to something that words and texts come to holds of the reply to anything that they come to
+pub only_settled : (asked : Option Words) (shelf : Shelved) (input : Option (List ℕ)) (P : Reply → Type 0) (s : Settled) → TellsTexts asked shelf → Settles asked shelf s → Answered (Settles asked shelf) input P → ForSome (reply s input) P
+only_settled None shelf input P s told so h = subst (λ (a : Settled). ForSome (reply a input) P) (one_settled_unasked shelf h.0 s h.1 so) h.2
+only_settled (Some words) shelf input P s told so h =
+    subst (λ (a : Settled). ForSome (reply a input) P) (one_settled words shelf told.0.0 told.1.0 h.0 s told.0.1 told.1.1 h.1 so) h.2
