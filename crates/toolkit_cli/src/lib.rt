@@ -4,6 +4,8 @@
 mod messages;
 mod program;
 mod status;
+#[cfg(test)]
+mod tests;
 mod texts;
 mod words;
 
