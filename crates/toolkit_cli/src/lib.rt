@@ -4,8 +4,6 @@
 mod messages;
 mod program;
 mod status;
-#[cfg(test)]
-mod tests;
 mod texts;
 mod words;
 

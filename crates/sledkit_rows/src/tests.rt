@@ -1,8 +1,8 @@
 // Whole runs over texts, an input and sinks in memory.
-use crate::{Status, run};
 use sled_base::{MemShelf, MemSink, MemSource};
 use std::alloc::Global;
 use std::test::Fail;
+use toolkit_cli::{Status, run};
 
 const SPEC: &str = "fields of w (32) op 24:31 v 0:23";
 
