@@ -1,4 +1,5 @@
 // Whole runs over texts, an input and sinks in memory.
+use crate::machines::{I486, MIPS, SPARC};
 use sled_base::{MemShelf, MemSink, MemSource};
 use std::alloc::Global;
 use std::test::Fail;
@@ -137,19 +138,24 @@ fn listings(rt: HostRuntime) -> Result<(), Fail> {
 fn refused_texts(rt: HostRuntime) -> Result<(), Fail> {
     let deep = "match case (((((((((((((((((((((((((((((((((((((((((((((((((((((((((((((((((";
     // SPEC, MATCH; the number and the notes.
-    let rows: [(&str, &str, u8, &str); 15] = [
-        ("fields $", "", 3, "s: error 3: byte not allowed at 7\n"),
+    let rows: [(&str, &str, u8, &str); 18] = [
         (
-            SPEC,
-            "match case op = 1 => \"x",
-            4,
-            "m: error 4: text not closed at 21\n",
+            "fields of w (32) x 0:7 $",
+            "",
+            3,
+            "s: error 3: byte not allowed at 23\n",
         ),
         (
-            "fields of w (4294967296)",
+            SPEC,
+            "match case x = 1 => \"one",
+            4,
+            "m: error 4: text not closed at 20\n",
+        ),
+        (
+            "fields of w (32) x 0:4294967296",
             "",
             5,
-            "s: error 5: number too large at 13\n",
+            "s: error 5: number too large at 21\n",
         ),
         ("fields w", "$", 6, "s: error 6: syntax\n"),
         (SPEC, "", 6, "m: error 6: syntax\n"),
@@ -212,6 +218,24 @@ fn refused_texts(rt: HostRuntime) -> Result<(), Fail> {
             "",
             90,
             "s: error 90: declaration 1 is not built yet\n",
+        ),
+        (
+            SPARC,
+            "",
+            90,
+            "s: error 90: declaration 2 is not built yet\n",
+        ),
+        (
+            MIPS,
+            "",
+            90,
+            "s: error 90: declaration 2 is not built yet\n",
+        ),
+        (
+            I486,
+            "",
+            90,
+            "s: error 90: declaration 2 is not built yet\n",
         ),
     ];
     for (spec, matching, number, told) in rows {
