@@ -21,6 +21,7 @@ struct Outside<'a> {
     input: &'a [u8],
     shelf_fails: &'a [u64],
     input_fails: &'a [u64],
+    out_fails: &'a [u64],
     room: u32,
     notes_fail: &'a [u64],
 }
@@ -39,7 +40,7 @@ fn answer(
     shelf.add(b"s", outside.spec.as_bytes())?;
     shelf.add(b"m", outside.matching.as_bytes())?;
     let mut input = MemSource::new(alloc, outside.input, outside.input_fails)?;
-    let mut out = MemSink::new(alloc, outside.room, &[])?;
+    let mut out = MemSink::new(alloc, outside.room, outside.out_fails)?;
     let mut notes = MemSink::new(alloc, 200, outside.notes_fail)?;
     let status = run(alloc, &owned, &mut shelf, &mut input, &mut out, &mut notes);
     Ok((status, out, notes))
@@ -53,6 +54,7 @@ fn sound<'a>(spec: &'a str, matching: &'a str, input: &'a [u8]) -> Outside<'a> {
         input,
         shelf_fails: &[],
         input_fails: &[],
+        out_fails: &[],
         room: 200,
         notes_fail: &[],
     }
@@ -277,50 +279,134 @@ fn words_without_form(rt: HostRuntime) -> Result<(), Fail> {
 #[test]
 fn failing_calls(rt: HostRuntime) -> Result<(), Fail> {
     let first = "00000010: 01000005  load 5\n";
-    // SPEC's name, the calls of shelf, input and notes that fail, the room of the output; the status, the output, the notes.
-    let rows: [(&str, [&[u64]; 3], u32, Status, &str, &str); 6] = [
+    let both = "00000010: 01000005  load 5\n00000014: 02000000  stop\n";
+    let no_match: &[u8] = b"\x01\0\0\x05\x03\0\0\0";
+    let spec_unread = "s: error 1: cannot be read\n";
+    let match_unread = "m: error 1: cannot be read\n";
+    let input_unread = "input: error 1: cannot be read\n";
+    let read = Status::ReadFault;
+    let write = Status::WriteFault;
+    // SPEC's name, the input, the calls of shelf, input, output and notes that fail, the room of the output; the status, the output,
+    // the notes.
+    let rows: [(&str, &[u8], [&[u64]; 4], u32, Status, &str, &str); 12] = [
         (
             "x",
-            [&[], &[], &[]],
+            LOAD_AND_STOP,
+            [&[], &[], &[], &[]],
             200,
-            Status::ReadFault,
+            read,
             "",
             "x: error 1: cannot be read\n",
         ),
         (
             "s",
-            [&[1], &[], &[]],
+            LOAD_AND_STOP,
+            [&[1], &[], &[], &[]],
             200,
-            Status::ReadFault,
+            read,
             "",
-            "s: error 1: cannot be read\n",
+            spec_unread,
         ),
         (
             "s",
-            [&[2], &[], &[]],
+            LOAD_AND_STOP,
+            [&[2], &[], &[], &[]],
             200,
-            Status::ReadFault,
+            read,
             "",
-            "m: error 1: cannot be read\n",
+            match_unread,
         ),
         (
             "s",
-            [&[], &[2], &[]],
+            LOAD_AND_STOP,
+            [&[], &[1], &[], &[]],
             200,
-            Status::ReadFault,
+            read,
             "",
-            "input: error 1: cannot be read\n",
+            input_unread,
         ),
-        ("s", [&[], &[], &[]], 27, Status::WriteFault, first, ""),
-        ("@s", [&[], &[], &[1]], 200, Status::WriteFault, "", ""),
+        (
+            "s",
+            LOAD_AND_STOP,
+            [&[], &[2], &[], &[]],
+            200,
+            read,
+            "",
+            input_unread,
+        ),
+        (
+            "s",
+            LOAD_AND_STOP,
+            [&[], &[], &[1], &[]],
+            200,
+            write,
+            "",
+            "",
+        ),
+        (
+            "s",
+            LOAD_AND_STOP,
+            [&[], &[], &[], &[]],
+            27,
+            write,
+            first,
+            "",
+        ),
+        (
+            "s",
+            LOAD_AND_STOP,
+            [&[1], &[], &[], &[1]],
+            200,
+            write,
+            "",
+            "",
+        ),
+        (
+            "s",
+            LOAD_AND_STOP,
+            [&[], &[1], &[], &[1]],
+            200,
+            write,
+            "",
+            "",
+        ),
+        ("s", no_match, [&[], &[], &[], &[1]], 200, write, first, ""),
+        (
+            "@s",
+            LOAD_AND_STOP,
+            [&[], &[], &[], &[1]],
+            200,
+            write,
+            "",
+            "",
+        ),
+        // one call more than there are
+        (
+            "s",
+            LOAD_AND_STOP,
+            [&[3], &[3], &[2], &[1]],
+            200,
+            Status::Done,
+            both,
+            "",
+        ),
     ];
-    for (name, [shelf_fails, input_fails, notes_fail], room, status, output, told) in rows {
+    for (
+        name,
+        input,
+        [shelf_fails, input_fails, out_fails, notes_fail],
+        room,
+        status,
+        output,
+        told,
+    ) in rows {
         let outside = Outside {
             spec: SPEC,
             matching: MATCH,
-            input: LOAD_AND_STOP,
+            input,
             shelf_fails,
             input_fails,
+            out_fails,
             room,
             notes_fail,
         };
