@@ -417,3 +417,30 @@ fn failing_calls(rt: HostRuntime) -> Result<(), Fail> {
     }
     Ok(())
 }
+
+#[test]
+fn longest_texts(rt: HostRuntime) -> Result<(), Fail> {
+    let alloc = rt.alloc();
+    let too_long = "s: error 2: text has more than 1048576 bytes\n";
+    for (length, status, told) in [
+        (1_048_576, Status::Done, ""),
+        (1_048_577, Status::Refused(2), too_long),
+    ] {
+        let mut blanks = Vec::new(alloc);
+        blanks.resize(length, b' ')?;
+        let mut shelf = MemShelf::new(alloc, &[])?;
+        shelf.add(b"s", &blanks)?;
+        shelf.add(b"m", b"match")?;
+        let mut words = Vec::new(alloc);
+        for word in ["dis", "s", "m", "0"] {
+            words.push(String::from_str(alloc, word)?)?;
+        }
+        let mut input = MemSource::new(alloc, b"", &[])?;
+        let mut out = MemSink::new(alloc, 10, &[])?;
+        let mut notes = MemSink::new(alloc, 200, &[])?;
+        let found = run(alloc, &words, &mut shelf, &mut input, &mut out, &mut notes);
+        assert_eq!(rt; found, status);
+        assert_eq!(rt; notes.bytes(), told.as_bytes());
+    }
+    Ok(())
+}
