@@ -18,10 +18,6 @@ len_case : (t : Bool) (n m : ℕ) → n ≤ m → cond t (suc n) 0 ≤ suc m
 len_case true n m h = omega arith
 len_case false n m h = omega arith
 
-pub run_len-le : (p : ℕ → Bool) (xs : List ℕ) → run_len p xs ≤ length xs
-run_len-le p [] = omega arith
-run_len-le p (b ∷ bs) = len_case (p b) _ _ (run_len-le p bs)
-
 stop_case : (t : Bool) (p : ℕ → Bool) (x : ℕ) (xs : List ℕ) → p x ≡ t → (run_len p xs < length xs → p (get_or xs (run_len p xs) 0) ≡ false)
     → cond t (suc (run_len p xs)) 0 < suc (length xs) → p (get_or (x ∷ xs) (cond t (suc (run_len p xs)) 0) 0) ≡ false
 stop_case true p x xs is later h = later (omega arith)
@@ -116,10 +112,6 @@ module _ (names : List (List ℕ)) (xs : List ℕ) (n : ℕ) where
 pub behind_behind : (xs ys : List Piece) (o : Option (List Piece)) → behind xs (behind ys o) ≡ behind (xs ++ ys) o
 behind_behind xs ys None = refl
 behind_behind xs ys (Some ps) = ap Some (sym (append_assoc xs ys ps))
-
-pub behind_none : (o : Option (List Piece)) → behind [] o ≡ o
-behind_none None = refl
-behind_none (Some ps) = refl
 
 -- ---- steps
 

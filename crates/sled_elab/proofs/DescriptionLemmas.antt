@@ -13,7 +13,8 @@ use Rattle.sled_elab.specs.Names.{is_among, are_distinct}
 use Rattle.sled_elab.specs.Meaning.{field_of, class_spec}
 use Rattle.sled_elab.specs.Conditions.{is_class_width, is_field_of, has_widths, declares_once}
 use Rattle.sled_elab.specs.Built.{IsBuiltSpec}
-use Rattle.sled_elab.proofs.NamesLemmas.{length-map, map-append, distinct_push, distinct_false}
+use Rattle.std.proofs.lemmas.List.{length-map, map-append}
+use Rattle.sled_elab.proofs.NamesLemmas.{distinct_push, distinct_false}
 use Rattle.sled_elab.proofs.ListLemmas.{take-here, around-here}
 
 abbrev names_of : List FieldTree → List (List ℕ)
@@ -92,7 +93,7 @@ module _ (width : List ℕ) where
       → IsBuiltSpec (class_spec name width false fields)
   class_spec-built name fields once widths few =
       let parts = both_of (is_class_width (number_value width)) (list_all (is_field_of (number_value width)) fields) widths in
-      let count = length-map (λ (f : FieldTree). f.name) fields in
+      let count = length-map fields (λ (f : FieldTree). f.name) in
       record {
         tokens = record {
           widths = All-cons (λ (c : Class). IsWidth c.width) class_of [] (width_of_class (number_value width) parts.0) (All-nil (λ (c : Class). IsWidth c.width));
@@ -100,7 +101,7 @@ module _ (width : List ℕ) where
         };
         one = omega arith;
         classes = refl;
-        fields = count ∙ sym (length-map field_of fields);
+        fields = count ∙ sym (length-map fields field_of);
         few = omega (arith, count);
         distinct = once;
       }

@@ -1,5 +1,6 @@
 -- Names seen through what holds them.
 use Rattle.std.proofs.Common.{◌≡◌, ℕ, suc, ◌+◌, Bool, true, false, cond, List, [], ◌∷◌, ◌++◌, length, get_or, All, AllPairs, zero, ◌-◌, ◌<◌, ◌≤◌, ◌≢◌, slice_get, Some, None, refl, sym, ap, ◌∙◌, arith}
+use Rattle.std.proofs.lemmas.List.{length-map}
 use Rattle.std.proofs.lemmas.List.Elements.{All-nil, All-cons}
 use Rattle.std.proofs.lemmas.List.Kept.{AllPairs-cons}
 use Rattle.std.proofs.lemmas.List.Quantifiers.{position-Some}
@@ -16,14 +17,10 @@ prefix_len-map : {A B : Type 0} (p : B → Bool) (f : A → B) (xs : List A) →
 prefix_len-map p f [] = refl
 prefix_len-map p f (x ∷ xs) = ap (λ n. cond (p (f x)) (1 + n) 0) (prefix_len-map p f xs)
 
-pub length-map : {A B : Type 0} (f : A → B) (xs : List A) → length (map f xs) ≡ length xs
-length-map f [] = refl
-length-map f (x ∷ xs) = ap suc (length-map f xs)
-
 pub position-map : {A B : Type 0} (p : B → Bool) (f : A → B) (xs : List A) → position p (map f xs) ≡ position (λ x. p (f x)) xs
 position-map p f xs =
     ap (λ n. cond (nat_lt n (length (map f xs))) (Some n) None) (prefix_len-map (λ y. not (p y)) f xs)
-    ∙ ap (λ n. cond (nat_lt (prefix_len (λ x. not (p (f x))) xs) n) (Some (prefix_len (λ x. not (p (f x))) xs)) None) (length-map f xs)
+    ∙ ap (λ n. cond (nat_lt (prefix_len (λ x. not (p (f x))) xs) n) (Some (prefix_len (λ x. not (p (f x))) xs)) None) (length-map xs f)
 
 -- ---- names that differ
 
@@ -78,10 +75,6 @@ distinct_false (n ∷ ns) ms y h = by_test (bytes_eq y n) refl h (distinct_false
       → (not (is_among (ns ++ y ∷ ms) n) && are_distinct (ns ++ y ∷ ms)) ≡ false
   by_test true e h later = rw (among_middle ns ms y n (eq_sym n y ∙ e)) refl
   by_test false e h later = rw (later h) (and_false (not (is_among (ns ++ y ∷ ms) n)))
-
-pub map-append : {A B : Type 0} (f : A → B) (xs ys : List A) → map f (xs ++ ys) ≡ map f xs ++ map f ys
-map-append f [] ys = refl
-map-append f (x ∷ xs) ys = ap (λ zs. f x ∷ zs) (map-append f xs ys)
 
 among_front : (ns ms : List (List ℕ)) (n : List ℕ) → is_among (ns ++ ms) n ≡ false → is_among ns n ≡ false
 among_front [] ms n h = refl

@@ -5,7 +5,7 @@ use Rattle.std.specs.List.{list_all, list_any, flat_map, filter_map, cons_option
 use Rattle.std.specs.Option.{IsSomeAnd}
 use Rattle.std.specs.Bool.{MatchBool, ◌==◌}
 use Rattle.std.proofs.lemmas.Bool.Decides.{nat_tests}
-use Rattle.std.proofs.lemmas.List.{append-nil, length-append}
+use Rattle.std.proofs.lemmas.List.{append-nil, length-append, map-append}
 use Rattle.std.proofs.lemmas.List.Elements.{All-nil, All-cons, All-append, filter_map-append}
 use Rattle.std.proofs.lemmas.Grind.{flat_map-append}
 use Rattle.sled_lexer.specs.Spelled.{number_value}
@@ -36,7 +36,7 @@ use Rattle.sled_elab.specs.Conditions.{first_unmet, names_known, constants_fit, 
 use Rattle.sled_elab.specs.Terms.{layer_terms, terms, spec_names, numbered, field_at, field_number, limit_pattern, relation_of, layer_pattern, term_pattern, layer_binds, bound_names, joined, arm_pattern, is_built_term, is_built_pattern}
 use Rattle.sled_elab.specs.Actions.{outside, inside, behind, bound_piece, words_piece, action_pieces, unquoted}
 use Rattle.sled_elab.specs.Built.{IsBuiltSpec}
-use Rattle.sled_elab.proofs.NamesLemmas.{position_found, slice_get-append, slice_get-at, distinct_pairs, distinct_push, distinct_false, map-append}
+use Rattle.sled_elab.proofs.NamesLemmas.{position_found, slice_get-append, slice_get-at, distinct_pairs, distinct_push, distinct_false}
 use Rattle.sled_elab.proofs.ListLemmas.{All-slice_get, take-here, drop-here, around-here}
 
 -- ---- the one class and its fields
@@ -100,10 +100,6 @@ numbered_term : (spec : Spec) (word : List ℕ) (k : ℕ) → IsBuiltSpec spec �
 numbered_term spec word k built true (is_class e some) = (class_same (record { 0 = k }) e, some_token spec.tokens.classes some)
 numbered_term spec word k built false (is_field within named) = field_of_class spec (k - length spec.class_names) built within
 
--- what a place names is a term of the one class
-pub numbered-IsTerm : (spec : Spec) (word : List ℕ) (k : ℕ) → IsBuiltSpec spec → position_of (spec_names spec) word ≡ Some k → IsTerm spec.tokens the_class (numbered spec k)
-numbered-IsTerm spec word k built e = numbered_term spec word k built (nat_lt k (length spec.class_names)) (placed spec word k built e (nat_lt k (length spec.class_names)) refl)
-
 field_known : (spec : Spec) (word : List ℕ) (k j : ℕ) → IsBuiltSpec spec → (t : Bool) → Placed spec word k t
     → (let o : Option ℕ = cond t None (Some (k - length spec.class_names)) in o) ≡ Some j → (j < length spec.tokens.fields) × (slice_get spec.field_names j ≡ Some word)
 field_known spec word k j built true (is_class e some) is = cc
@@ -118,7 +114,8 @@ field_by_place spec word j (Some k) built e is = field_known spec word k j built
 pub field_number-known : (spec : Spec) (word : List ℕ) (j : ℕ) → IsBuiltSpec spec → field_number spec word ≡ Some j → (j < length spec.tokens.fields) × (slice_get spec.field_names j ≡ Some word)
 field_number-known spec word j built is = field_by_place spec word j (position_of (spec_names spec) word) built refl is
 
-map_some : {A B : Type 0} (o : Option A) (f : A → B) (r : B) → option_map f o ≡ Some r → (a : A) × (o ≡ Some a) × (f a ≡ r)
+-- where a mapped option is one, the option is
+pub map_some : {A B : Type 0} (o : Option A) (f : A → B) (r : B) → option_map f o ≡ Some r → (a : A) × (o ≡ Some a) × (f a ≡ r)
 map_some None f r e = cc
 map_some (Some a) f r e = (a, refl, some_same (f a) r e) where
   some_same : {C : Type 0} (x y : C) → Some x ≡ Some y → x ≡ y
@@ -178,9 +175,6 @@ has_some : {A : Type 0} (o : Option A) → is_some o ≡ true → (x : A) × (o 
 has_some None h = cc
 has_some (Some x) h = (x, refl)
 
-map-flat : {A B : Type 0} (f : A → B) (xs ys : List A) → map f (xs ++ ys) ≡ map f xs ++ map f ys
-map-flat f xs ys = map-append f xs ys
-
 -- the patterns of terms whose names are known
 pub record AreReadAs (spec : Spec) (ts : List PatternTree) (ps : List Pattern) : Type 0 where
   pub terms : All (IsTerm spec.tokens the_class) ps
@@ -201,10 +195,10 @@ terms_read spec (t ∷ ts) built known =
       terms = All-cons (IsTerm spec.tokens the_class) found.0 ps here.term rest.terms;
       alone = All-cons (λ (p : Pattern). terms_of p ≡ p ∷ []) found.0 ps here.alone rest.alone;
       count = ap suc rest.count;
-      names = map-flat Some (layer_binds spec (out-PatternTree t)) (bound_names spec ts)
+      names = map-append Some (layer_binds spec (out-PatternTree t)) (bound_names spec ts)
           ∙ ap (λ (xs : List (Option (List ℕ))). xs ++ map Some (bound_names spec ts)) here.names
           ∙ ap (λ (xs : List (Option (List ℕ))). map at (term_fields found.0) ++ xs) rest.names
-          ∙ sym (map-flat at (term_fields found.0) (flat_map term_fields ps));
+          ∙ sym (map-append at (term_fields found.0) (flat_map term_fields ps));
     })
 
 -- ---- the pattern of an arm
@@ -405,13 +399,6 @@ pub arms_lack-met : (spec : Spec) (trees : List ArmTree) (i : ℕ) (tree : ArmTr
 arms_lack-met spec trees i tree has_skip h is met =
     ap (λ (r : List ArmTree). arms_lack spec (i + 1) r has_skip) (drop-here trees i tree h ∙ ap (λ (a : ArmTree). a ∷ drop (i + 1) trees) (sym is))
     ∙ ap (λ (l : Option Lack). first_lack (i + 1) l (arms_lack spec (i + 1 + 1) (drop (i + 1) trees) has_skip)) met
-
--- and where it lacks something
-pub arms_lack-at : (spec : Spec) (trees : List ArmTree) (i : ℕ) (tree : ArmTree) (lack : Lack) (has_skip : Bool) → i < length trees → tree ≡ get_or trees i tree → arm_lack spec tree ≡ Some lack
-    → arms_lack spec (i + 1) (drop i trees) has_skip ≡ Some (i + 1, lack)
-arms_lack-at spec trees i tree lack has_skip h is lacks =
-    ap (λ (r : List ArmTree). arms_lack spec (i + 1) r has_skip) (drop-here trees i tree h ∙ ap (λ (a : ArmTree). a ∷ drop (i + 1) trees) (sym is))
-    ∙ ap (λ (l : Option Lack). first_lack (i + 1) l (arms_lack spec (i + 1 + 1) (drop (i + 1) trees) has_skip)) lacks
 
 -- ---- what tests and cases tell
 

@@ -19,7 +19,8 @@ use sled_model::{
 use sled_parser::tree::{Decl, FieldTree};
 use std::alloc::Global;
 
-/// The description that the declarations make, or the first of them that lacks something.
+/// The description that the declarations make, or the first of them that lacks something. Each class has fewer than 2^31 fields, as every
+/// class of a text that may be loaded has.
 pub fn elaborate(alloc: Global, decls: &[Decl]) -> Result<Spec, ElabFault>
     requires { All HasFewFields decls.now }
     ensures made { IfOk result (λ spec. spec ≡ spec_of decls.now) }

@@ -24,7 +24,8 @@ use sled_parser::tree::{ArmTree, ArmsTree, MatchTree, PatternTree};
 use std::alloc::Global;
 
 /// The statement that the arms make over an accepted description, or the first of them that lacks something. A tail that is not
-/// built is charged to the arm past the last, and `all` to arm 1.
+/// built is charged to the arm past the last, and `all` to arm 1. Each arm has fewer than 2^31 terms, as every arm of a text that may be
+/// loaded has.
 pub fn elaborate_match(alloc: Global, spec: &Spec, tree: &MatchTree) -> Result<Statement, ElabFault>
     requires built { IsBuiltSpec spec.now }
     requires few { ListedFewTerms tree.now.arms }

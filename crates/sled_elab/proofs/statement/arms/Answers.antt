@@ -4,7 +4,7 @@ use Rattle.sled_parser.specs.declared.tree.ArmTree.{ArmTree}
 use Rattle.sled_model.specs.declared.statement.Arm.{Arm}
 use Rattle.sled_model.specs.OneToken.{IsOneTokenArm}
 use Rattle.sled_elab.specs.Meaning.{arm_of}
-use Rattle.sled_elab.proofs.NamesLemmas.{map-append}
+use Rattle.std.proofs.lemmas.List.{map-append}
 use Rattle.sled_elab.proofs.ListLemmas.{take-here}
 use Rattle.sled_elab.proofs.StatementLemmas.{arms_lack-met}
 use Rattle.sled_elab.proofs.statement.arms.Goals as goal
