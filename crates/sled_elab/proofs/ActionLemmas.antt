@@ -14,10 +14,6 @@ use Rattle.sled_model.specs.declared.statement.Piece.TheVariants.{Bound}
 
 -- ---- runs
 
-len_case : (t : Bool) (n m : ℕ) → n ≤ m → cond t (suc n) 0 ≤ suc m
-len_case true n m h = omega arith
-len_case false n m h = omega arith
-
 stop_case : (t : Bool) (p : ℕ → Bool) (x : ℕ) (xs : List ℕ) → p x ≡ t → (run_len p xs < length xs → p (get_or xs (run_len p xs) 0) ≡ false)
     → cond t (suc (run_len p xs)) 0 < suc (length xs) → p (get_or (x ∷ xs) (cond t (suc (run_len p xs)) 0) 0) ≡ false
 stop_case true p x xs is later h = later (omega arith)

@@ -1,7 +1,7 @@
 -- How what stands after a part of a run makes what stands after the whole.
-use Rattle.std.proofs.Common.{◌≡◌, ◌⊎◌, inl, inr, ℕ, zero, suc, ◌<◌, take, ◌≤◌, List, [], length, Some, None, refl, sym, ◌∙◌, ap, subst, append-nil, arith}
+use Rattle.std.proofs.Common.{◌≡◌, ◌⊎◌, inl, inr, ℕ, zero, suc, take, ◌≤◌, List, [], length, Some, None, refl, sym, ◌∙◌, ap, subst, append-nil, arith}
 use Rattle.std.proofs.Math.Seq.{take-length}
-use Rattle.std.specs.Prelude.{Option, option_map, codes}
+use Rattle.std.specs.Prelude.{Option, codes}
 use Rattle.std.specs.Option.{ForSome}
 use Rattle.std.specs.Io.KnownBytes.{Appends, Keeps}
 use Rattle.sled_base.specs.Causes.{Rose}
@@ -11,6 +11,7 @@ use Rattle.sled_model.specs.declared.statement.Statement.{Statement}
 use Rattle.match_engine.specs.declared.listing.Stop.{Stop}
 use Rattle.match_engine.specs.Listing.{listing}
 use Rattle.match_engine.specs.Listed.{WroteListing}
+use Rattle.sled_elab.proofs.StatementLemmas.{map_some}
 use Rattle.toolkit_cli.specs.declared.status.Status.{Status}
 use Rattle.toolkit_cli.specs.declared.status.Status.TheVariants.{Done, Refused, Usage, ReadFault, WriteFault, NoMemory}
 use Rattle.toolkit_cli.specs.declared.messages.Problem.{Problem}
@@ -21,7 +22,7 @@ use Rattle.toolkit_cli.specs.Words.{Words}
 use Rattle.toolkit_cli.specs.Messages.{message, problem_number, usage_text}
 use Rattle.toolkit_cli.specs.Reply.{Settled, Shelved, no_form, refused_text, accepted, Settles, Reply, reply, refused, listing_reply, listed_reply, stop_problem, usage_reply}
 use Rattle.toolkit_cli.specs.Told.{Told}
-use Rattle.toolkit_cli.specs.Stands.{Change, HasFailed, Gets, GetsPrefix, GetsNothing, IsReply, OutFailed, NotesFailed, HasPart, IsAnswer, Answered, IsUnwritten, Stands, StopTold, UnreadByWords, AcceptsByWords}
+use Rattle.toolkit_cli.specs.Stands.{Change, HasFailed, Gets, GetsPrefix, GetsNothing, IsReply, OutFailed, NotesFailed, HasPart, IsAnswer, Answered, Stands, StopTold, UnreadByWords, AcceptsByWords}
 
 -- a count that rose later has risen
 pub Rose-later : (a b c : ℕ) → a ≤ b → Rose b c → Rose a c
@@ -125,12 +126,6 @@ Stands-along settles later input unread unread_later sink log NoMemory up read (
 
 -- ---- the listing
 
-map_some : {A B : Type 0} (o : Option A) (f : A → B) (r : B) → option_map f o ≡ Some r → (a : A) × (o ≡ Some a) × (f a ≡ r)
-map_some None f r e = cc
-map_some (Some a) f r e = (a, refl, some_same (f a) r e) where
-  some_same : {C : Type 0} (x y : C) → Some x ≡ Some y → x ≡ y
-  some_same x y e = cc
-
 -- the listing stopped, and its lines are written
 pub input_stopped : (spec : Spec) (statement : Statement) (base : ℕ) (input : Option (List ℕ)) (sink : Change) (stop : Stop)
     → ForSome input (λ bytes. WroteListing (Some stop) sink.old sink.new (listing spec statement base bytes))
@@ -142,17 +137,6 @@ input_stopped spec statement base input sink stop wrote r e =
     let same : refused l.lines (codes "input") (stop_problem stop) ≡ r = ap (λ (s : Option Stop). listed_reply l.lines s) (sym done.stop) ∙ bytes.2 in
     subst (λ (x : Reply). HasOutput sink (message (codes "input") (stop_problem stop)) (Refused (problem_number (stop_problem stop))) x) same
     (record { output = done.lines; text = refl; answer = refl })
-
--- the listing is whole
-pub input_done : (spec : Spec) (statement : Statement) (base : ℕ) (input : Option (List ℕ)) (sink log : Change) → GetsNothing log
-    → ForSome input (λ bytes. WroteListing None sink.old sink.new (listing spec statement base bytes))
-    → ForSome (reply (accepted spec statement base) input) (IsReply sink log Done)
-input_done spec statement base input sink log kept wrote r e =
-    let bytes = map_some input (λ (b : List ℕ). listing_reply (listing spec statement base b)) r e in
-    let l = listing spec statement base bytes.0 in
-    let done = wrote bytes.0 bytes.1 in
-    let same : (let x : Reply = record { output = l.lines; notes = []; status = Done } in x) ≡ r = ap (λ (s : Option Stop). listed_reply l.lines s) (sym done.stop) ∙ bytes.2 in
-    subst (λ (x : Reply). IsReply sink log Done x) same (record { output = done.lines; notes = Gets-nothing log kept; status = refl })
 
 output_of : (lines : List ℕ) (stop : Option Stop) → (listed_reply lines stop).output ≡ lines
 output_of lines None = refl
@@ -195,31 +179,6 @@ stands_answer settles input unread sink log Usage is h = h
 stands_answer settles input unread sink log ReadFault is h = absurd is
 stands_answer settles input unread sink log WriteFault is h = absurd is
 stands_answer settles input unread sink log NoMemory is h = absurd is
-
--- no read failed where no count rose
-pub none_unread : (asked : Option Words) (shelf : Shelved) (shelf_rose : List ℕ → Type 0) (input_rose : Type 0) → ((name : List ℕ) → ¬ shelf_rose name) → ¬ input_rose
-    → (name : List ℕ) → ¬ UnreadByWords asked shelf shelf_rose input_rose name
-none_unread None shelf shelf_rose input_rose loads reads name h = h
-none_unread (Some words) shelf shelf_rose input_rose loads reads name (inl h) = loads words.spec h.1
-none_unread (Some words) shelf shelf_rose input_rose loads reads name (inr (inl h)) = loads words.matching h.2
-none_unread (Some words) shelf shelf_rose input_rose loads reads name (inr (inr h)) = reads h.2
-
-unwritten_rose : (settles : Settled → Type 0) (input : Option (List ℕ)) (unread : List ℕ → Type 0) (sink log : Change) → IsUnwritten settles input unread sink log → ¬ HasFailed sink → ¬ HasFailed log → ⊥
-unwritten_rose settles input unread sink log (inl h) out notes = by_part h.2 where
-  by_part : OutFailed (reply h.0 input) sink log ⊎ NotesFailed (reply h.0 input) sink log → ⊥
-  by_part (inl k) = out k.cause
-  by_part (inr k) = notes k.cause
-unwritten_rose settles input unread sink log (inr h) out notes = notes h.cause
-
--- where nothing rose, it is an answer or want of memory
-pub stands_complete : (settles : Settled → Type 0) (input : Option (List ℕ)) (unread : List ℕ → Type 0) (sink log : Change) (status : Status) → ((name : List ℕ) → ¬ unread name) → ¬ HasFailed sink → ¬ HasFailed log
-    → Stands settles input unread sink log status → IsAnswer status ⊎ (status ≡ NoMemory)
-stands_complete settles input unread sink log Done unasked out notes h = inl tt
-stands_complete settles input unread sink log (Refused number) unasked out notes h = inl tt
-stands_complete settles input unread sink log Usage unasked out notes h = inl tt
-stands_complete settles input unread sink log ReadFault unasked out notes h = absurd (unasked h.name h.read)
-stands_complete settles input unread sink log WriteFault unasked out notes h = absurd (unwritten_rose settles input unread sink log h out notes)
-stands_complete settles input unread sink log NoMemory unasked out notes h = inr refl
 
 -- no form: the usage text, a failed write of it, or no memory
 pub stands_no_form : (asked : Option Words) (shelf : Shelved) (input : Option (List ℕ)) (shelf_rose : List ℕ → Type 0) (input_rose : Type 0) (sink log : Change) (status : Status) → asked ≡ None

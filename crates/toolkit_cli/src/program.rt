@@ -7,7 +7,7 @@ ghost use Rattle.sled_model.specs.OneToken.{IsOneTokenStatement};
 ghost use Rattle.toolkit_cli.specs.CommandWords.{command_words};
 ghost use Rattle.toolkit_cli.specs.Words.{words_of};
 ghost use Rattle.toolkit_cli.specs.Reply.{Settled, Settles, SettlesDis, TellsTexts, accepted, reply};
-ghost use Rattle.toolkit_cli.specs.Stands.{AcceptsByWords, Stands, StopTold, InputUnread, Unread, UnreadByWords, Answered, IsAnswer, IsReply, IsUnread, IsUnwritten, IsForgone};
+ghost use Rattle.toolkit_cli.specs.Stands.{AcceptsByWords, AcceptsTexts, Stands, StopTold, InputUnread, Unread, UnreadByWords, Answered, IsAnswer, IsReply, IsUnread, IsUnwritten, IsForgone};
 
 use crate::messages::Problem;
 use crate::status::Status;
@@ -72,8 +72,9 @@ pub fn run<H: Shelf, I: Source, O: Sink, E: Sink>(
         (record { old = O.contents out.old; new = O.contents out.new; count = O.faults out.old; new_count = O.faults out.new })
         (record { old = E.contents notes.old; new = E.contents notes.new; count = E.faults notes.old; new_count = E.faults notes.new }) }
 
-    // Unless both texts are accepted, nothing is written to out, whatever the answer is.
+    // Unless both texts are accepted, nothing is written to out and nothing is read, whatever the answer is.
     ensures untouched { AcceptsByWords (words_of (map string_bytes words.now)) (record { text = H.text shelf.old; lacks = H.lacks shelf.old }) ⊎ Keeps (O.contents out.old) (O.contents out.new) }
+    ensures unasked { AcceptsByWords (words_of (map string_bytes words.now)) (record { text = H.text shelf.old; lacks = H.lacks shelf.old }) ⊎ (input.new ≡ input.old) }
 
     ensures read_to_end { result ≡ Status.Done → IsAtEnd (I.left input.new) }
 
@@ -101,6 +102,7 @@ fn answer<H: Shelf, I: Source, O: Sink, E: Sink>(
         (record { old = O.contents out.old; new = O.contents out.new; count = O.faults out.old; new_count = O.faults out.new })
         (record { old = E.contents notes.old; new = E.contents notes.new; count = E.faults notes.old; new_count = E.faults notes.new })
         result }
+    ensures unasked { AcceptsByWords (words_of (map string_bytes words.now)) (record { text = H.text shelf.old; lacks = H.lacks shelf.old }) ⊎ (input.new ≡ input.old) }
     ensures usage { result ≡ Status.Usage → words_of (map string_bytes words.now) ≡ None }
     ensures read_to_end { result ≡ Status.Done → IsAtEnd (I.left input.new) }
     ensures others { (name : List ℕ) → ForSome (words_of (map string_bytes words.now)) (λ w. (name ≢ w.spec) × (name ≢ w.matching))
@@ -128,6 +130,7 @@ fn dis<H: Shelf, I: Source, O: Sink, E: Sink>(
         (record { old = O.contents out.old; new = O.contents out.new; count = O.faults out.old; new_count = O.faults out.new })
         (record { old = E.contents notes.old; new = E.contents notes.new; count = E.faults notes.old; new_count = E.faults notes.new })
         result }
+    ensures unasked { AcceptsTexts (command_words command.now) (record { text = H.text shelf.old; lacks = H.lacks shelf.old }) ⊎ (input.new ≡ input.old) }
     ensures usage { result ≢ Status.Usage }
     ensures read_to_end { result ≡ Status.Done → IsAtEnd (I.left input.new) }
     ensures others { (name : List ℕ) → name ≢ command.now.spec.now → name ≢ command.now.matching.now → H.faults shelf.new name ≡ H.faults shelf.old name }

@@ -172,7 +172,6 @@ pub fn tell<E: Sink>(
     notes: &mut E,
 ) -> Status
     ensures told { Told (E.contents notes.old) (E.contents notes.new) (E.faults notes.old) (E.faults notes.new) (message_of name.now problem) wanted result }
-    ensures later { E.faults notes.old ≤ E.faults notes.new }
 {
     let Ok(text) = message(alloc, name, problem) else {
         return Status::NoMemory;
@@ -183,8 +182,6 @@ pub fn tell<E: Sink>(
 /// Writes the bytes, and answers the status that is wanted.
 pub fn say<E: Sink>(text: &[u8], wanted: Status, notes: &mut E) -> Status
     ensures told { Told (E.contents notes.old) (E.contents notes.new) (E.faults notes.old) (E.faults notes.new) text.now wanted result }
-    ensures memory { result ≡ Status.NoMemory → wanted ≡ Status.NoMemory }
-    ensures later { E.faults notes.old ≤ E.faults notes.new }
 {
     match write_all(notes, text) {
         Ok(()) => wanted,
