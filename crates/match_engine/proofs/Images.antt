@@ -5,7 +5,7 @@ use Rattle.std.specs.Io.KnownBytes.{Appends}
 use Rattle.sled_base.specs.Contents.{AppendsProperPrefix}
 use Rattle.sled_model.specs.declared.spec.Spec.{Spec}
 use Rattle.sled_model.specs.declared.statement.Statement.{Statement}
-use Rattle.sled_model.specs.OneToken.{IsOneTokenStatement}
+use Rattle.sled_model.specs.PlainStatements.{IsPlainStatement}
 use Rattle.match_engine.specs.declared.listing.Stop.{Stop}
 use Rattle.match_engine.specs.declared.listing.Stop.TheVariants.{NoMatch, AddressEnd}
 use Rattle.match_engine.specs.declared.listing.Lines.{Lines}
@@ -16,17 +16,17 @@ use Rattle.match_engine.specs.Listed.{WroteListing, IsListed, fault_of}
 use Rattle.match_engine.proofs.Places.{listing-take, listing-fits}
 use Rattle.match_engine.proofs.Taken.{taken-local}
 
-module _ (spec : Spec) (statement : Statement) (one : IsOneTokenStatement spec statement) (base : ℕ) (low : base < 2 ^ 32) where
+module _ (spec : Spec) (statement : Statement) (plain : IsPlainStatement spec statement) (base : ℕ) (low : base < 2 ^ 32) where
   -- what is made of the bytes that were held is the listing of all
   pub made_of_all : (bytes passed held : List ℕ) (l : Listing) → l ≡ listing spec statement base passed → passed ≡ held → held ≡ take 4294967360 bytes → l ≡ listing spec statement base bytes
   made_of_all bytes passed held l made same front =
-      made ∙ ap (listing spec statement base) (same ∙ front) ∙ listing-take (taken spec statement) (taken-local spec statement one) base 4294967360 bytes (omega arith) (omega arith)
+      made ∙ ap (listing spec statement base) (same ∙ front) ∙ listing-take (taken spec statement) (taken-local spec statement plain) base 4294967360 bytes (omega arith) (omega arith)
 
   -- where it does not stop, fewer were held than might have been
   pub held_less : (passed : List ℕ) (lines : Lines) (stop : Option Stop) → listed lines stop ≡ listing spec statement base passed → stop ≡ None → length passed < 4294967360
   held_less passed lines stop made ended =
       let none : (listing spec statement base passed).stop ≡ None = sym (ap (λ (l : Listing). l.stop) made) ∙ ended in
-      let fits = listing-fits (taken spec statement) (taken-local spec statement one) base passed (omega arith) none in
+      let fits = listing-fits (taken spec statement) (taken-local spec statement plain) base passed (omega arith) none in
       omega arith
 
 pub wrote : (m : Listing) (lines : Lines) (stop end : Option Stop) (old new : Option (List ℕ)) (text : List ℕ) → listed lines stop ≡ m → text ≡ lines.text.items → stop ≡ end → Appends old new text

@@ -4,3 +4,4 @@ pub mod Taken
 pub mod Steps
 pub mod Images
 pub mod Worked
+pub mod Matched

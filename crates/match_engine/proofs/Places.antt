@@ -5,11 +5,11 @@ use Rattle.std.proofs.lemmas.List.{length-drop, length-take, take-take, drop-tak
 use Rattle.match_engine.specs.declared.listing.Stop.TheVariants.{AddressEnd}
 use Rattle.match_engine.specs.Listing.{Listing, Taking, ended, place_listing, places_from, listing_by}
 
--- what stands at a place takes a byte at least, and no more than there are, and four bytes decide what it is
+-- what stands at a place takes a byte at least, and no more than there are, and the first 32 bytes decide what it is
 pub record IsLocal (taking : Taking) : Type 0 where
-  pub some : (place n : ℕ) (bytes text : List ℕ) → taking place bytes ≡ Some (n, text) → 0 < n
+  pub some : (place n : ℕ) (bytes text : List ℕ) → 0 < length bytes → taking place bytes ≡ Some (n, text) → 0 < n
   pub fits : (place n : ℕ) (bytes text : List ℕ) → taking place bytes ≡ Some (n, text) → n ≤ length bytes
-  pub front : (place n : ℕ) (bytes : List ℕ) → 4 ≤ n → taking place (take n bytes) ≡ taking place bytes
+  pub front : (place n : ℕ) (bytes : List ℕ) → 32 ≤ n → taking place (take n bytes) ≡ taking place bytes
 
 -- what follows a place counts only where it ends
 place-same : (place : ℕ) (bytes others : List ℕ) (o : Option (ℕ × List ℕ)) (f g : ℕ → List ℕ → Listing)
@@ -44,7 +44,7 @@ module _ (taking : Taking) (local : IsLocal taking) where
   enough (suc k) (suc m) place (b ∷ bs) h i =
       ap (λ l. cond (leb (2 ^ 32) place) (ended place (Some (AddressEnd place))) l)
       (place-same place (b ∷ bs) (b ∷ bs) (taking place (b ∷ bs)) (places_from k taking) (places_from m taking)
-      (λ n text e within. let some = local.some place n (b ∷ bs) text e in
+      (λ n text e within. let some = local.some place n (b ∷ bs) text (omega arith) e in
       (refl, enough k m (place + n) (drop n (b ∷ bs)) (omega (arith, length-drop n (b ∷ bs))) (omega (arith, length-drop n (b ∷ bs))))))
 
   -- the place in front, and then the listing of what follows
@@ -53,11 +53,11 @@ module _ (taking : Taking) (local : IsLocal taking) where
   listing-place place (b ∷ bs) some low =
       ap (λ t. cond t (ended place (Some (AddressEnd place))) (place_listing place (b ∷ bs) (taking place (b ∷ bs)) (places_from (length bs) taking))) (lt-leb (2 ^ 32) place low)
       ∙ place-same place (b ∷ bs) (b ∷ bs) (taking place (b ∷ bs)) (places_from (length bs) taking) (listing_by taking)
-      (λ n text e within. let some = local.some place n (b ∷ bs) text e in
+      (λ n text e within. let some = local.some place n (b ∷ bs) text (omega arith) e in
       (refl, enough (length bs) (length (drop n (b ∷ bs))) (place + n) (drop n (b ∷ bs)) (omega (arith, length-drop n (b ∷ bs))) (omega arith)))
 
   -- the bytes that are looked at, where more follow
-  front-same : (k place n : ℕ) (bytes : List ℕ) → place ≤ 2 ^ 32 → 2 ^ 32 + 4 ≤ place + n → places_from k taking place (take n bytes) ≡ places_from k taking place bytes
+  front-same : (k place n : ℕ) (bytes : List ℕ) → place ≤ 2 ^ 32 → 2 ^ 32 + 32 ≤ place + n → places_from k taking place (take n bytes) ≡ places_from k taking place bytes
   front-same zero place n bytes low far = refl
   front-same (suc k) place zero bytes low far = absurd (omega arith)
   front-same (suc k) place (suc n) [] low far = refl
@@ -72,7 +72,7 @@ module _ (taking : Taking) (local : IsLocal taking) where
       )))
 
   -- bytes past the end of the addresses change nothing
-  pub listing-take : (place n : ℕ) (bytes : List ℕ) → place ≤ 2 ^ 32 → 2 ^ 32 + 4 ≤ place + n → listing_by taking place (take n bytes) ≡ listing_by taking place bytes
+  pub listing-take : (place n : ℕ) (bytes : List ℕ) → place ≤ 2 ^ 32 → 2 ^ 32 + 32 ≤ place + n → listing_by taking place (take n bytes) ≡ listing_by taking place bytes
   listing-take place n bytes low far =
       enough (length (take n bytes)) (length bytes) place (take n bytes) (omega arith) (omega (arith, length-take n bytes)) ∙ front-same (length bytes) place n bytes low far
 
@@ -89,7 +89,7 @@ module _ (taking : Taking) (local : IsLocal taking) where
           let here = rw (lt-leb (2 ^ 32) place less) at e in
           goes_on place (b ∷ bs) (taking place (b ∷ bs)) (places_from k taking) (place + length (b ∷ bs) ≤ 2 ^ 32)
           (λ n text is within rest.
-          let after = further n (local.some place n (b ∷ bs) text is) within rest in
+          let after = further n (local.some place n (b ∷ bs) text (omega arith) is) within rest in
           let fits = local.fits place n (b ∷ bs) text is in omega (arith, length-drop n (b ∷ bs)))
           here
       by_address (inr more) further = let here = rw (le-leb (2 ^ 32) place more) at e in cc

@@ -1,122 +1,91 @@
--- What stands at a place by a statement whose arms are each of one token.
-use Rattle.std.proofs.Common.{◌≡◌, ℕ, ◌+◌, ◌/◌, ◌<◌, ◌≤◌, inl, inr, Bool, true, false, cond, List, [], ◌∷◌, ◌++◌, length, take, get_or, decimal, slice_get, All, Option, Some, None, refl, sym, ap, ◌∙◌, subst, arith}
-use Rattle.std.specs.List.{flat_map, list_all}
-use Rattle.std.specs.Option.{option_map, option_map_or}
-use Rattle.std.proofs.lemmas.List.{length-map}
-use Rattle.std.proofs.lemmas.List.Elements.{All-nil, All-cons, All-head, All-tail, All-weaker}
-use Rattle.std.proofs.lemmas.Option.{slice_get-get_or}
-use Rattle.sled_model.specs.declared.tokens.Class.{Class}
+-- What stands at a place by a plain statement.
+use Rattle.std.proofs.Common.{◌≡◌, ℕ, ◌<◌, ◌≤◌, ◌⊎◌, inl, inr, min, List, length, take, decimal, slice_get, codes, ◌++◌, Option, Some, None, IfSome, refl, sym, ap, ◌∙◌, arith}
+use Rattle.std.specs.Option.{option_map}
+use Rattle.std.proofs.Math.Seq.{take-length}
+use Rattle.std.proofs.lemmas.Bool.{cases_lt}
+use Rattle.std.proofs.lemmas.List.{length-take}
 use Rattle.sled_model.specs.declared.raw.Match.{Match}
-use Rattle.sled_model.specs.declared.raw.RawEntry.{RawEntry}
 use Rattle.sled_model.specs.declared.spec.Spec.{Spec}
 use Rattle.sled_model.specs.declared.statement.Arm.{Arm}
-use Rattle.sled_model.specs.declared.statement.Piece.{Piece}
-use Rattle.sled_model.specs.declared.statement.Piece.TheVariants.{Words, Bound}
 use Rattle.sled_model.specs.declared.statement.Statement.{Statement}
-use Rattle.sled_model.specs.Tokens.{token, byte_count, AreTokens, IsWidth}
-use Rattle.sled_model.specs.Results.{one_match, arm_context, arm_results}
-use Rattle.sled_model.specs.First.{first, first_from, first_or}
-use Rattle.sled_model.specs.Simple.{IsSimpleArm, AreNamesOf, bare_fields, value_entries, terms_of, term_holds}
-use Rattle.sled_model.specs.OneToken.{IsOneTokenArm, IsOneTokenStatement, IsPieceOf}
-use Rattle.sled_model.proofs.SimpleLemmas.{simple_class, results_by_token, All-slice_get}
-use Rattle.sled_model.proofs.TokensWithin.{token_within}
-use Rattle.sled_model.proofs.Front.{first_from-front}
-use Rattle.sled_model.proofs.NameValues.{name_value-simple}
-use Rattle.match_engine.specs.Listing.{piece_text, action_text, arm_taken, taken_by, taken}
-use Rattle.match_engine.specs.Lines.{piece_words, action_words}
+use Rattle.sled_model.specs.First.{first}
+use Rattle.sled_model.specs.PlainStatements.{IsMatchLength, IsPlainStatement}
+use Rattle.sled_model.proofs.Front.{first-front, first-length, first-within}
+use Rattle.match_engine.specs.Listing.{arm_taken, skip_taken, taken_by, taken}
+use Rattle.match_engine.specs.Matcher.{Told, numbered, told_taken}
 use Rattle.match_engine.proofs.Places.{IsLocal}
 
--- a result of one token takes a byte at least, and no more than there are
-abbrev pub Fits : List ℕ → Match → Type 0
-Fits bytes m = (0 < m.len) × (m.len ≤ length bytes)
+-- what is taken of so many bytes
+pub record Takes (bytes : List ℕ) (n : ℕ) : Type 0 where
+  pub some : 0 < length bytes → 0 < n
+  pub most : n ≤ 32
+  pub fits : n ≤ length bytes
 
-some_bytes : (width : ℕ) → IsWidth width → 0 < width / 8
-some_bytes width (inl e) = omega arith
-some_bytes width (inr (inl e)) = omega arith
-some_bytes width (inr (inr e)) = omega arith
+skip-takes : (skip : Option ℕ) (bytes text : List ℕ) (n : ℕ) → IfSome skip IsMatchLength → option_map (skip_taken bytes) skip ≡ Some (n, text) → Takes bytes n
+skip-takes None bytes text n h e = absurd (cc)
+skip-takes (Some k) bytes text n h e =
+    let pair : skip_taken bytes k ≡ (n, text) = cc in
+    let count : min k (length bytes) ≡ n = ap (λ (p : ℕ × List ℕ). p.0) pair in
+    record { some = λ some. omega (arith, h.0); most = omega (arith, h.1); fits = omega arith }
 
-one_or_none : (b : Bool) (binds : List RawEntry) (len : ℕ) (bytes : List ℕ) → 0 < len → len ≤ length bytes → All (Fits bytes) (cond b (one_match binds len) [])
-one_or_none true binds len bytes some fits = All-cons (Fits bytes) (record { binds = binds; len = len; loose = false }) [] (some, fits) (All-nil (Fits bytes))
-one_or_none false binds len bytes some fits = All-nil (Fits bytes)
+-- where a skip takes no more than the bytes that are held, those behind them change nothing
+skip-front : (skip : Option ℕ) (bytes : List ℕ) (n : ℕ) → IfSome skip IsMatchLength → 32 ≤ n → option_map (skip_taken (take n bytes)) skip ≡ option_map (skip_taken bytes) skip
+skip-front None bytes n h le = refl
+skip-front (Some k) bytes n h le =
+    let count : min k (length (take n bytes)) ≡ min k (length bytes) = omega (arith, length-take n bytes, h.1) in
+    ap (λ c. Some (c, codes ".skip " ++ decimal c)) count
 
-pub arm-fits : (spec : Spec) (arm : Arm) (bytes : List ℕ) → AreTokens spec.tokens → IsSimpleArm spec arm → All (Fits bytes) (arm_results spec arm bytes 0)
-arm-fits spec arm bytes sound (class, simple) =
-    let cl = simple_class spec.tokens class arm.pattern sound simple in
-    by_token cl.0 cl.1.0 (token cl.0 bytes 0) refl
-  where
-    by_token : (cl : Class) → slice_get spec.tokens.classes class.0 ≡ Some cl → (o : Option ℕ) → token cl bytes 0 ≡ o → All (Fits bytes) (arm_results spec arm bytes 0)
-    by_token cl known None e = subst (All (Fits bytes)) (sym (results_by_token spec.tokens class cl known bytes (arm_context spec) refl arm.pattern simple None e)) (All-nil (Fits bytes))
-    by_token cl known (Some n) e =
-        subst (All (Fits bytes)) (sym (results_by_token spec.tokens class cl known bytes (arm_context spec) refl arm.pattern simple (Some n) e))
-        (one_or_none (list_all (term_holds spec.tokens n) (terms_of arm.pattern)) _ (byte_count cl) bytes
-        (some_bytes cl.width (All-slice_get (λ (k : Class). IsWidth k.width) spec.tokens.classes class.0 cl known sound.widths))
-        (omega (arith, token_within cl bytes 0 n e)))
-
-first_or-fits : (k : ℕ) (found : List Match) (later : Option (ℕ × Match)) (bytes : List ℕ) (j : ℕ) (m : Match) → All (Fits bytes) found → first_or k found later ≡ Some (j, m)
-    → (later ≡ Some (j, m) → Fits bytes m) → Fits bytes m
-first_or-fits k [] later bytes j m h e further = further e
-first_or-fits k (a ∷ more) later bytes j m h e further = let pair : (let p : ℕ × Match = (k, a) in p) ≡ (j, m) = cc in subst (Fits bytes) (ap (λ (p : ℕ × Match). p.1) pair) (All-head (Fits bytes) a more h)
-
-pub first_from-fits : (k : ℕ) (spec : Spec) (arms : List Arm) (bytes : List ℕ) (j : ℕ) (m : Match) → AreTokens spec.tokens → All (IsSimpleArm spec) arms
-    → first_from k spec arms bytes ≡ Some (j, m) → Fits bytes m
-first_from-fits k spec [] bytes j m sound h e = absurd (cc)
-first_from-fits k spec (arm ∷ arms) bytes j m sound h e =
-    first_or-fits k (arm_results spec arm bytes 0) (first_from (k + 1) spec arms bytes) bytes j m (arm-fits spec arm bytes sound (All-head (IsSimpleArm spec) arm arms h)) e
-    (λ later. first_from-fits (k + 1) spec arms bytes j m sound (All-tail (IsSimpleArm spec) arm arms h) later)
-
-pub simple_arms : (spec : Spec) (statement : Statement) → IsOneTokenStatement spec statement → All (IsSimpleArm spec) statement.arms
-simple_arms spec statement h = All-weaker (IsOneTokenArm spec) (IsSimpleArm spec) (λ arm one. one.simple) statement.arms h.arms
-
-module _ (spec : Spec) (statement : Statement) (one : IsOneTokenStatement spec statement) where
-  -- what is taken is of the length of a result
-  length_of : (place n : ℕ) (bytes text : List ℕ) (o : Option (ℕ × Match)) → first spec statement bytes ≡ o → taken_by spec statement place bytes o ≡ Some (n, text) → (0 < n) × (n ≤ length bytes)
-  length_of place n bytes text None e is = let none = rw one.skip at is in cc
-  length_of place n bytes text (Some (k, m)) e is = by_arm (slice_get statement.arms k) is
+module _ (spec : Spec) (statement : Statement) (plain : IsPlainStatement spec statement) where
+  -- what the bytes that are handed over decide
+  pub window-first : (bytes : List ℕ) (n : ℕ) → n ≡ min (length bytes) 32 → first spec statement (take n bytes) ≡ first spec statement bytes
+  window-first bytes n is = by_length (cases_lt (length bytes) 32)
     where
-      by_arm : (arm : Option Arm) → option_map (arm_taken spec place m) arm ≡ Some (n, text) → (0 < n) × (n ≤ length bytes)
-      by_arm None is = cc
-      by_arm (Some a) is =
-          let fits = first_from-fits 0 spec statement.arms bytes k m one.tokens (simple_arms spec statement one) e in
-          let pair : arm_taken spec place m a ≡ (n, text) = cc in
-          let same = ap (λ (p : ℕ × List ℕ). p.0) pair in (omega (arith, fits.0), omega (arith, fits.1))
+      by_length : (length bytes < 32) ⊎ (32 ≤ length bytes) → first spec statement (take n bytes) ≡ first spec statement bytes
+      by_length (inl few) = let whole : n ≡ length bytes = omega arith in ap (λ k. first spec statement (take k bytes)) whole ∙ ap (first spec statement) (take-length bytes)
+      by_length (inr many) = first-front spec statement plain bytes n (omega arith)
 
-  -- without a skip the bytes count only for the arms
-  without_skip : (place : ℕ) (bytes others : List ℕ) (o : Option (ℕ × Match)) → taken_by spec statement place bytes o ≡ taken_by spec statement place others o
-  without_skip place bytes others None = rw one.skip refl
-  without_skip place bytes others (Some (k, m)) = refl
+  told_first : (place k : ℕ) (bytes : List ℕ) (o : Option (ℕ × Match)) (t : Told) → Some (k, t) ≡ option_map numbered o
+      → taken_by spec statement place bytes o ≡ option_map (told_taken spec place t) (slice_get statement.arms k)
+  told_first place k bytes None t e = absurd (cc)
+  told_first place k bytes (Some (j, m)) t e =
+      let pair : (k, t) ≡ numbered (j, m) = cc in
+      sym (ap (λ (p : ℕ × Told). option_map (told_taken spec place p.1) (slice_get statement.arms p.0)) pair)
+
+  told_none : (place : ℕ) (bytes : List ℕ) (o : Option (ℕ × Match)) → None ≡ option_map numbered o → taken_by spec statement place bytes o ≡ option_map (skip_taken bytes) statement.skip
+  told_none place bytes None e = refl
+  told_none place bytes (Some (j, m)) e = absurd (cc)
+
+  pub match-taken : (place n k : ℕ) (bytes : List ℕ) (t : Told) → n ≡ min (length bytes) 32 → Some (k, t) ≡ option_map numbered (first spec statement (take n bytes))
+      → taken spec statement place bytes ≡ option_map (told_taken spec place t) (slice_get statement.arms k)
+  match-taken place n k bytes t is found = told_first place k bytes (first spec statement bytes) t (found ∙ ap (option_map numbered) (window-first bytes n is))
+
+  pub skip-taken : (place n : ℕ) (bytes : List ℕ) → n ≡ min (length bytes) 32 → None ≡ option_map numbered (first spec statement (take n bytes))
+      → taken spec statement place bytes ≡ option_map (skip_taken bytes) statement.skip
+  skip-taken place n bytes is found = told_none place bytes (first spec statement bytes) (found ∙ ap (option_map numbered) (window-first bytes n is))
+
+  arm-takes : (place n k : ℕ) (bytes text : List ℕ) (m : Match) (o : Option Arm) → first spec statement bytes ≡ Some (k, m) → option_map (arm_taken spec place m) o ≡ Some (n, text) → Takes bytes n
+  arm-takes place n k bytes text m None e is = absurd (cc)
+  arm-takes place n k bytes text m (Some arm) e is =
+      let pair : arm_taken spec place m arm ≡ (n, text) = cc in
+      let count : m.len ≡ n = ap (λ (p : ℕ × List ℕ). p.0) pair in
+      let len = first-length spec statement plain bytes k m e in
+      let within = first-within spec statement plain bytes k m e in
+      record { some = λ some. omega (arith, len.0); most = omega (arith, len.1); fits = omega arith }
+
+  by_first : (place n : ℕ) (bytes text : List ℕ) (o : Option (ℕ × Match)) → first spec statement bytes ≡ o → taken_by spec statement place bytes o ≡ Some (n, text) → Takes bytes n
+  by_first place n bytes text None e is = skip-takes statement.skip bytes text n plain.skip is
+  by_first place n bytes text (Some (k, m)) e is = arm-takes place n k bytes text m (slice_get statement.arms k) e is
+
+  pub takes : (place n : ℕ) (bytes text : List ℕ) → taken spec statement place bytes ≡ Some (n, text) → Takes bytes n
+  takes place n bytes text e = by_first place n bytes text (first spec statement bytes) refl e
+
+  same_skip : (place n : ℕ) (bytes : List ℕ) (o : Option (ℕ × Match)) → 32 ≤ n → taken_by spec statement place (take n bytes) o ≡ taken_by spec statement place bytes o
+  same_skip place n bytes None le = skip-front statement.skip bytes n plain.skip le
+  same_skip place n bytes (Some (k, m)) le = refl
 
   pub taken-local : IsLocal (taken spec statement)
   taken-local = record {
-    some = λ place n bytes text e. (length_of place n bytes text (first spec statement bytes) refl e).0;
-    fits = λ place n bytes text e. (length_of place n bytes text (first spec statement bytes) refl e).1;
-    front = λ place n bytes four.
-        ap (taken_by spec statement place (take n bytes)) (first_from-front 0 spec statement.arms bytes n one.tokens (simple_arms spec statement one) four)
-        ∙ without_skip place (take n bytes) bytes (first spec statement bytes);
+    some = λ place n bytes text some e. (takes place n bytes text e).some some;
+    fits = λ place n bytes text e. (takes place n bytes text e).fits;
+    front = λ place n bytes le. ap (taken_by spec statement place (take n bytes)) (first-front spec statement plain bytes n le) ∙ same_skip place n bytes (first spec statement bytes) le;
   }
-
-  -- an arm's result
-  pub taken-arm : (place : ℕ) (bytes : List ℕ) (k : ℕ) (m : Match) (arm : Arm) → first spec statement bytes ≡ Some (k, m) → slice_get statement.arms k ≡ Some arm
-      → taken spec statement place bytes ≡ Some (m.len, action_text spec arm place m.binds)
-  taken-arm place bytes k m arm e at = ap (taken_by spec statement place bytes) e ∙ ap (option_map (arm_taken spec place m)) at
-
--- the words of an action, by the values that were read
-module _ (spec : Spec) (arm : Arm) (place : ℕ) (values : List ℕ) (names : AreNamesOf spec (bare_fields arm.pattern) arm.names) (same : length values ≡ length (bare_fields arm.pattern)) where
-  piece-words : (piece : Piece) → IsPieceOf (length arm.names) piece → piece_text spec arm place (value_entries (bare_fields arm.pattern) values) piece ≡ piece_words values piece
-  piece-words (Words words) h = refl
-  piece-words (Bound k) h =
-      let count : length arm.names ≡ length (bare_fields arm.pattern) =
-      sym (length-map arm.names Some) ∙ ap length names.spelled ∙ length-map (bare_fields arm.pattern) (λ f. slice_get spec.field_names f.0) in
-      let within : k < length values = omega (arith, count, same, h) in
-      let at = slice_get-get_or values k 0 within in
-      ap (λ o. option_map_or decimal o []) (name_value-simple spec arm place values k (get_or values k 0) names same at ∙ sym at)
-
-  pieces-words : (pieces : List Piece) → All (IsPieceOf (length arm.names)) pieces
-      → flat_map (piece_text spec arm place (value_entries (bare_fields arm.pattern) values)) pieces ≡ flat_map (piece_words values) pieces
-  pieces-words [] h = refl
-  pieces-words (piece ∷ pieces) h =
-      let head = piece-words piece (All-head (IsPieceOf (length arm.names)) piece pieces h) in
-      let tail = pieces-words pieces (All-tail (IsPieceOf (length arm.names)) piece pieces h) in
-      ap (λ front. front ++ flat_map (piece_text spec arm place (value_entries (bare_fields arm.pattern) values)) pieces) head ∙ ap (λ rest. piece_words values piece ++ rest) tail
-
-  pub action-words : All (IsPieceOf (length arm.names)) arm.action → action_text spec arm place (value_entries (bare_fields arm.pattern) values) ≡ action_words arm values
-  action-words h = pieces-words arm.action h

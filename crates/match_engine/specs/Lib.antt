@@ -2,3 +2,4 @@ pub mod Listing
 pub mod Listed
 pub mod Lines
 pub mod Example
+pub mod Matcher

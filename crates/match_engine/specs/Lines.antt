@@ -1,23 +1,10 @@
--- The lines that were made so far, and the values that an arm of one token reads.
-use Rattle.std.specs.Prelude.{◌≡◌, ℕ, ◌<◌, ◌≤◌, ◌^◌, List, [], length, drop, slice_get, decimal, Option, Some, Result, Ok, Err}
-use Rattle.std.specs.List.{flat_map}
-use Rattle.std.specs.Option.{option_map_or}
+-- The lines that were made so far.
+use Rattle.std.specs.Prelude.{◌≡◌, ℕ, ◌<◌, ◌≤◌, ◌^◌, List, length, drop, Option, Some, Result, Ok, Err}
 use Rattle.sled_model.specs.declared.spec.Spec.{Spec}
-use Rattle.sled_model.specs.declared.statement.Arm.{Arm}
-use Rattle.sled_model.specs.declared.statement.Piece.{Piece}
-use Rattle.sled_model.specs.declared.statement.Piece.TheVariants.{Words, Bound}
 use Rattle.sled_model.specs.declared.statement.Statement.{Statement}
 use Rattle.match_engine.specs.declared.listing.Stop.{Stop}
 use Rattle.match_engine.specs.declared.listing.Lines.{Lines}
 use Rattle.match_engine.specs.Listing.{Listing, listing, behind}
-
--- a piece of an action's text, where the names have these values in order
-abbrev pub piece_words : List ℕ → Piece → List ℕ
-piece_words values (Words words) = words
-piece_words values (Bound k) = option_map_or decimal (slice_get values k) []
-
-abbrev pub action_words : Arm → List ℕ → List ℕ
-action_words arm values = flat_map (piece_words values) arm.action
 
 -- the lines end at an address or behind the last one, and each takes a byte at least
 abbrev pub IsWithin : Lines → Type 0

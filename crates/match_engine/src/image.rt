@@ -1,6 +1,6 @@
 // The listing of an image, from a source into a sink.
 ghost use Rattle.std.specs.Prelude.{◌≡◌, ◌≤◌};
-ghost use Rattle.sled_model.specs.OneToken.{IsOneTokenStatement};
+ghost use Rattle.sled_model.specs.PlainStatements.{IsPlainStatement};
 ghost use Rattle.match_engine.specs.Listed.{IsListed};
 
 use crate::Stop;
@@ -22,7 +22,7 @@ pub struct Listed {
 /// Why a listing was not written whole.
 #[derive(Clone, Copy, Debug, PartialEq, Eq)]
 pub enum ListFault {
-    /// No arm matches at this address.
+    /// No arm matches at this address, and the statement skips nothing.
     NoMatch(u64),
     /// At the place of this address a byte stands at 2^32 or above.
     AddressEnd(u64),
@@ -46,8 +46,8 @@ impl From<Stop> for ListFault {
     }
 }
 
-/// Lists all bytes of the source, the first of which stands at address `base`, by the arms of the statement in turn. The lines before a
-/// refused place are written. After a failed read, and where there is no memory, nothing is written. `ReadFault` and `WriteFault` come
+/// Lists all bytes of the source, the first of which stands at address `base`, by the arms of the statement in turn, and where none
+/// matches, by its skip. The lines before a refused place are written. After a failed read, and where there is no memory, nothing is written. `ReadFault` and `WriteFault` come
 /// only where the count of the source or the sink rose.
 pub fn list<I: Source, O: Sink>(
     alloc: Global,
@@ -57,7 +57,7 @@ pub fn list<I: Source, O: Sink>(
     source: &mut I,
     sink: &mut O,
 ) -> Result<Listed, ListFault>
-    requires { IsOneTokenStatement spec.now statement.now }
+    requires { IsPlainStatement spec.now statement.now }
     ensures listed { IsListed spec.now statement.now base (I.left source.old) (I.left source.new) (I.faults source.old) (I.faults source.new)
         (O.contents sink.old) (O.contents sink.new) (O.faults sink.old) (O.faults sink.new) result }
     ensures later { I.faults source.old ≤ I.faults source.new }

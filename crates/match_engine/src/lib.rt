@@ -4,8 +4,12 @@
 mod image;
 mod line;
 mod listing;
+mod matcher;
+mod place;
+mod spot;
 #[cfg(test)]
 mod tests;
 
 pub use image::{ListFault, Listed, list};
 pub use listing::Stop;
+pub use matcher::{CaseLists, Matcher, compile};

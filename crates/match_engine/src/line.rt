@@ -1,30 +1,32 @@
-// The lines of a listing.
-ghost use Rattle.std.specs.Prelude.{◌≡◌, ◌≤◌, ◌++◌, codes, decimal, length, OnOk};
+// The lines of a listing, and the texts that stand in them.
+ghost use Rattle.std.specs.Prelude.{◌≡◌, ◌≤◌, ◌^◌, ◌++◌, codes, decimal, length, OnOk};
 ghost use Rattle.hex.specs.Hex.{encode_lower};
-ghost use Rattle.match_engine.specs.Listing.{address_text, line_text};
-ghost use Rattle.match_engine.specs.Lines.{piece_words, action_words};
+ghost use Rattle.token_bits.specs.Tokens.{AreTokens};
+ghost use Rattle.pattern_normal.specs.Skeletons.{read_entries};
+ghost use Rattle.match_engine.specs.Listing.{address_text, line_text, piece_text, action_text};
 
-use sled_base::{MAX_MATCH, NoMemory};
-use sled_model::{Arm, Piece};
+use crate::spot::name_value;
+use pattern_normal::Skeleton;
+use sled_base::MAX_MATCH;
+use sled_model::{Arm, Piece, Spec};
 use std::alloc::{AllocError, Global};
 
-/// Appends the line of an address, whose bytes are a match of the arm that reads these values.
+/// Appends the line of an address, with the bytes that stand there and their text.
 pub(crate) fn push_line(
     text: &mut Vec<u8>,
     number: &mut String,
     address: u64,
     bytes: &[u8],
-    arm: &Arm,
-    values: &[u32],
+    words: &[u8],
 ) -> Result<(), AllocError>
     requires { length bytes.now ≤ MAX_MATCH }
-    ensures { OnOk result (text.new.items ≡ text.old.items ++ line_text address bytes.now (action_words arm.now values.now)) }
+    ensures { OnOk result (text.new.items ≡ text.old.items ++ line_text address bytes.now words.now) }
 {
     push_address(text, number, address)?;
     text.extend_from_slice(b": ")?;
     push_hex(text, bytes)?;
     text.extend_from_slice(b"  ")?;
-    push_action(text, number, arm, values)?;
+    text.extend_from_slice(words)?;
     text.push(b'\n')?;
     Ok(())
 }
@@ -50,17 +52,22 @@ fn push_hex(text: &mut Vec<u8>, bytes: &[u8]) -> Result<(), AllocError>
     }
 }
 
-/// Appends the arm's action, with the value of each name in its place.
-fn push_action(
+/// Appends the arm's action, with the value in the place of each name that the skeleton binds, read from a window at the location.
+pub(crate) fn push_action(
     text: &mut Vec<u8>,
     number: &mut String,
+    spec: &Spec,
     arm: &Arm,
-    values: &[u32],
+    location: u64,
+    skeleton: &Skeleton,
+    window: &[u8],
 ) -> Result<(), AllocError>
-    ensures { OnOk result (text.new.items ≡ text.old.items ++ action_words arm.now values.now) }
+    requires tokens { AreTokens spec.now.tokens }
+    requires low { location ≤ 2 ^ 32 }
+    ensures { OnOk result (text.new.items ≡ text.old.items ++ action_text spec.now arm.now location (read_entries spec.now.tokens window.now skeleton.now.entries)) }
 {
     for piece in arm.action.as_slice() {
-        push_piece(text, number, piece, values)?;
+        push_piece(text, number, spec, arm, location, skeleton, window, piece)?;
     }
     Ok(())
 }
@@ -68,21 +75,39 @@ fn push_action(
 fn push_piece(
     text: &mut Vec<u8>,
     number: &mut String,
+    spec: &Spec,
+    arm: &Arm,
+    location: u64,
+    skeleton: &Skeleton,
+    window: &[u8],
     piece: &Piece,
-    values: &[u32],
 ) -> Result<(), AllocError>
-    ensures { OnOk result (text.new.items ≡ text.old.items ++ piece_words values.now piece.now) }
+    requires tokens { AreTokens spec.now.tokens }
+    requires low { location ≤ 2 ^ 32 }
+    ensures { OnOk result (text.new.items ≡ text.old.items ++ piece_text spec.now arm.now location (read_entries spec.now.tokens window.now skeleton.now.entries) piece.now) }
 {
     match piece {
         Piece::Words(words) => text.extend_from_slice(words.as_slice()),
-        Piece::Bound(k) => match values.get(*k as usize) {
-            Some(value) => push_decimal(text, number, *value),
+        Piece::Bound(k) => match name_value(spec, arm, location, skeleton, window, *k) {
+            Some(value) => push_decimal(text, number, value),
             None => Ok(()),
         },
     }
 }
 
-fn push_decimal(text: &mut Vec<u8>, number: &mut String, value: u32) -> Result<(), AllocError>
+/// Appends the text of so many skipped bytes.
+pub(crate) fn push_skip(
+    text: &mut Vec<u8>,
+    number: &mut String,
+    count: usize,
+) -> Result<(), AllocError>
+    ensures { OnOk result (text.new.items ≡ text.old.items ++ (codes ".skip " ++ decimal count)) }
+{
+    text.extend_from_slice(b".skip ")?;
+    push_decimal(text, number, count as u64)
+}
+
+fn push_decimal(text: &mut Vec<u8>, number: &mut String, value: u64) -> Result<(), AllocError>
     ensures { OnOk result (text.new.items ≡ text.old.items ++ decimal value) }
 {
     number.clear();

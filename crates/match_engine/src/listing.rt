@@ -1,12 +1,15 @@
 // The lines of an image, from place to place.
 ghost use Rattle.std.specs.Prelude.{◌≡◌, ◌<◌, ◌≤◌, length, [], IfOk};
-ghost use Rattle.sled_model.specs.OneToken.{IsOneTokenStatement};
+ghost use Rattle.sled_model.specs.PlainStatements.{IsPlainStatement};
 ghost use Rattle.match_engine.specs.Listing.{listing};
 ghost use Rattle.match_engine.specs.Lines.{IsWithin, IsStep, listed};
+ghost use Rattle.match_engine.specs.Matcher.{IsReady};
 
 use crate::line::push_line;
+use crate::matcher::{Matcher, compile};
+use crate::place::taken;
 use sled_base::NoMemory;
-use sled_model::{Spec, Statement, first_simple, simple_len};
+use sled_model::{Spec, Statement};
 use std::alloc::Global;
 
 /// The end of the addresses.
@@ -25,7 +28,7 @@ pub(crate) struct Lines {
     pub text: Vec<u8>,
     pub places: u64,
     pub end: u64,
-    values: Vec<u32>,
+    words: Vec<u8>,
     number: String,
 }
 
@@ -39,7 +42,7 @@ impl Lines {
             text: Vec::new(alloc),
             places: 0,
             end: u64::from(base),
-            values: Vec::new(alloc),
+            words: Vec::new(alloc),
             number: String::new(alloc),
         }
     }
@@ -47,34 +50,27 @@ impl Lines {
     /// Lists the place in front of `rest`, and answers how many bytes it takes, or why the listing stops there.
     fn push_place(
         &mut self,
-        spec: &Spec,
-        statement: &Statement,
+        matcher: &Matcher<'_>,
         rest: &[u8],
     ) -> Result<Result<usize, Stop>, NoMemory>
-        requires sound { IsOneTokenStatement spec.now statement.now }
+        requires ready { IsReady matcher.now }
         requires some { 0 < length rest.now }
         requires within { IsWithin self.old }
-        ensures { IfOk result (IsStep spec.now statement.now rest.now self.old self.new) }
+        ensures { IfOk result (IsStep matcher.now.spec.now matcher.now.statement.now rest.now self.old self.new) }
     {
-        if self.end >= END {
-            return Ok(Err(Stop::AddressEnd(self.end)));
+        let place = self.end;
+        if place >= END {
+            return Ok(Err(Stop::AddressEnd(place)));
         }
-        let Some(k) = first_simple(spec, statement, rest, &mut self.values)? else {
-            return Ok(Err(Stop::NoMatch(self.end)));
+        let (words, number) = (&mut self.words, &mut self.number);
+        let Some(count) = taken(matcher, place, rest, words, number)? else {
+            return Ok(Err(Stop::NoMatch(place)));
         };
-        let arm = &statement.arms.as_slice()[k];
-        let count = simple_len(&spec.tokens, &arm.pattern);
-        if END - self.end < count as u64 {
-            return Ok(Err(Stop::AddressEnd(self.end)));
+        if END - place < count as u64 {
+            return Ok(Err(Stop::AddressEnd(place)));
         }
-        push_line(
-            &mut self.text,
-            &mut self.number,
-            self.end,
-            &rest[..count],
-            arm,
-            &self.values,
-        )?;
+        let bytes = &rest[..count];
+        push_line(&mut self.text, &mut self.number, place, bytes, &self.words)?;
         self.end += count as u64;
         self.places += 1;
         Ok(Ok(count))
@@ -89,13 +85,26 @@ pub(crate) fn lines_of(
     base: u32,
     bytes: &[u8],
 ) -> Result<(Lines, Option<Stop>), NoMemory>
-    requires { IsOneTokenStatement spec.now statement.now }
+    requires { IsPlainStatement spec.now statement.now }
     ensures { IfOk result (λ (lines, stop). listed lines stop ≡ listing spec.now statement.now base bytes.now) }
+{
+    let matcher = compile(alloc, spec, statement)?;
+    lines_by(alloc, &matcher, base, bytes)
+}
+
+fn lines_by(
+    alloc: Global,
+    matcher: &Matcher<'_>,
+    base: u32,
+    bytes: &[u8],
+) -> Result<(Lines, Option<Stop>), NoMemory>
+    requires { IsReady matcher.now }
+    ensures { IfOk result (λ (lines, stop). listed lines stop ≡ listing matcher.now.spec.now matcher.now.statement.now base bytes.now) }
 {
     let mut lines = Lines::new(alloc, base);
     let mut rest = bytes;
     while !rest.is_empty() {
-        match lines.push_place(spec, statement, rest)? {
+        match lines.push_place(matcher, rest)? {
             Ok(count) => rest = &rest[count..],
             Err(stop) => return Ok((lines, Some(stop))),
         }

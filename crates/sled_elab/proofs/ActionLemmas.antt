@@ -2,11 +2,11 @@
 use Rattle.std.proofs.Common.{◌≡◌, ◌≢◌, ℕ, suc, ◌+◌, ◌<◌, ◌≤◌, Bool, true, false, cond, List, [], ◌∷◌, ◌++◌, length, take, drop, get_or, Some, None, refl, sym, ap, ◌∙◌, subst, append-nil, append_assoc, arith}
 use Rattle.std.specs.Prelude.{Option, not, ◌&&◌, nat_eq}
 use Rattle.std.proofs.Math.ListN.{drop_of_length-le}
-use Rattle.sled_elab.proofs.ListLemmas.{drop-here}
+use Rattle.tree_meaning.proofs.ListLemmas.{drop-here}
 use Rattle.std.proofs.lemmas.Bool.Decides.{nat_tests}
 use Rattle.sled_model.specs.declared.statement.Piece.{Piece}
 use Rattle.sled_elab.specs.Actions.{outside, inside, behind, words_piece, bound_piece, run_len, is_no_brace, is_no_close}
-use Rattle.sled_elab.specs.Names.{position_of}
+use Rattle.tree_meaning.specs.Names.{position_of}
 use Rattle.sled_elab.specs.declared.action.Step.{Step}
 use Rattle.sled_elab.specs.declared.action.Step.TheVariants.{End, Wrong, Rest}
 use Rattle.sled_elab.specs.Steps.{Steps, StepsNamed}

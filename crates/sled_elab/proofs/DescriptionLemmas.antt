@@ -1,107 +1,122 @@
--- Classes and their fields.
-use Rattle.std.proofs.Common.{◌≡◌, ℕ, ◌+◌, ◌^◌, ◌<◌, ◌≤◌, Bool, true, false, List, [], ◌∷◌, ◌++◌, length, map, take, drop, get_or, All, refl, sym, ap, ◌∙◌, inl, inr, arith}
-use Rattle.std.specs.Prelude.{◌&&◌, ◌||◌, nat_eq, nat_le, nat_lt}
-use Rattle.std.specs.List.{list_all}
-use Rattle.std.proofs.lemmas.Bool.Decides.{nat_tests}
-use Rattle.std.proofs.lemmas.List.Elements.{All-nil, All-cons}
-use Rattle.sled_lexer.specs.Spelled.{number_value}
-use Rattle.sled_parser.specs.declared.tree.FieldTree.{FieldTree}
-use Rattle.sled_model.specs.declared.tokens.Class.{Class}
-use Rattle.sled_model.specs.declared.tokens.Order.TheVariants.{Big}
-use Rattle.sled_model.specs.Tokens.{IsWidth, IsFieldOf}
-use Rattle.sled_elab.specs.Names.{is_among, are_distinct}
-use Rattle.sled_elab.specs.Meaning.{field_of, class_spec}
-use Rattle.sled_elab.specs.Conditions.{is_class_width, is_field_of, has_widths, declares_once}
-use Rattle.sled_elab.specs.Built.{IsBuiltSpec}
-use Rattle.std.proofs.lemmas.List.{length-map, map-append}
-use Rattle.sled_elab.proofs.NamesLemmas.{distinct_push, distinct_false}
-use Rattle.sled_elab.proofs.ListLemmas.{take-here, around-here}
+-- A description with one name more.
+use Rattle.std.proofs.Common.{◌≡◌, ◌≢◌, ℕ, ◌+◌, Bool, true, false, List, [], ◌∷◌, ◌++◌, length, All, IsSome, is_some, slice_get, Some, refl, sym, ap, subst, ◌∙◌}
+use Rattle.std.specs.Prelude.{◌||◌, bytes_eq}
+use Rattle.std.proofs.lemmas.List.{length_push}
+use Rattle.std.proofs.lemmas.List.Elements.{All-nil, All-cons, All-head, All-tail, All-append, All-push, All-weaker}
+use Rattle.std.proofs.lemmas.List.Folds.{list_any-append}
+use Rattle.std.proofs.lemmas.Slice.Eq.{bytes_eq-Decides}
+use Rattle.token_bits.specs.declared.tokens.Tokens.{Tokens}
+use Rattle.token_bits.specs.declared.tokens.Class.{Class}
+use Rattle.token_bits.specs.declared.tokens.ClassId.{ClassId}
+use Rattle.token_bits.specs.declared.tokens.Field.{Field}
+use Rattle.token_bits.specs.declared.tokens.FieldId.{FieldId}
+use Rattle.sled_model.specs.declared.spec.Spec.{Spec}
+use Rattle.sled_model.specs.Specs.{IsSpec, IsNewName, names_of}
+use Rattle.tree_meaning.specs.declared.scope.Meaning.{Meaning}
+use Rattle.tree_meaning.specs.declared.scope.Meaning.TheVariants as meaning
+use Rattle.tree_meaning.specs.Names.{is_among}
+use Rattle.tree_meaning.specs.Scopes.{Declared}
+use Rattle.tree_meaning.specs.Sound.{IsSoundMeaning}
+use Rattle.tree_meaning.proofs.NamesLemmas.{distinct_push}
+use Rattle.sled_elab.specs.Declarations.{Described, with_name}
+use Rattle.sled_elab.specs.Descriptions.{IsSound}
+use Rattle.sled_elab.proofs.Growing.{IsKept, slice_get-front, meanings_kept}
 
-abbrev names_of : List FieldTree → List (List ℕ)
-names_of fields = map (λ (f : FieldTree). f.name) fields
+module _ {A : Type 0} (P : A → Type 0) where
+  All-front : (xs ys : List A) → All P (xs ++ ys) → All P xs
+  All-front [] ys h = All-nil P
+  All-front (x ∷ xs) ys h = All-cons P x xs (All-head P x (xs ++ ys) h) (All-front xs ys (All-tail P x (xs ++ ys) h))
 
--- ---- a table that grows by the name of each field
+  All-back : (xs ys : List A) → All P (xs ++ ys) → All P ys
+  All-back [] ys h = h
+  All-back (x ∷ xs) ys h = All-back xs ys (All-tail P x (xs ++ ys) h)
 
-module _ (name : List ℕ) (fields : List FieldTree) (i : ℕ) (field : FieldTree) (h : i < length fields) (is : field ≡ get_or fields i field) where
-  pub one_more_name : (table more : List (List ℕ)) → table ≡ name ∷ names_of (take i fields) → more ≡ table ++ field.name ∷ [] → more ≡ name ∷ names_of (take (i + 1) fields)
-  one_more_name table more so_far added =
-      added ∙ ap (λ t. t ++ field.name ∷ []) so_far
-      ∙ ap (λ ns. name ∷ ns) (sym (ap (names_of) (take-here fields i field h is) ∙ map-append (λ (f : FieldTree). f.name) (take i fields) (field ∷ [])))
+pub slice_get-push : {A : Type 0} (xs : List A) (x : A) → slice_get (xs ++ x ∷ []) (length xs) ≡ Some x
+slice_get-push [] x = refl
+slice_get-push (y ∷ xs) x = slice_get-push xs x
 
-  pub stays_distinct : (table more : List (List ℕ)) → are_distinct table ≡ true → is_among table field.name ≡ false → more ≡ table ++ field.name ∷ [] → are_distinct more ≡ true
-  stays_distinct table more distinct new added = ap are_distinct added ∙ distinct_push table field.name distinct new
+or_true : (t : Bool) → (t || true) ≡ true
+or_true true = refl
+or_true false = refl
 
-  pub declared_twice : (table : List (List ℕ)) → table ≡ name ∷ names_of (take i fields) → is_among table field.name ≡ true → declares_once name fields ≡ false
-  declared_twice table so_far there =
-      let whole : name ∷ names_of fields ≡ table ++ field.name ∷ names_of (drop (i + 1) fields) =
-      ap (λ ns. name ∷ ns) (ap (names_of) (around-here fields i field h is) ∙ map-append (λ (f : FieldTree). f.name) (take i fields) (field ∷ drop (i + 1) fields))
-      ∙ ap (λ t. t ++ field.name ∷ names_of (drop (i + 1) fields)) (sym so_far) in
-      ap are_distinct whole ∙ distinct_false table (names_of (drop (i + 1) fields)) field.name there
+among_more : (names : List (List ℕ)) (name n : List ℕ) → is_among names n ≡ true → is_among (names ++ name ∷ []) n ≡ true
+among_more names name n h = list_any-append (bytes_eq n) names (name ∷ []) ∙ ap (λ t. t || is_among (name ∷ []) n) h
 
--- ---- a class that lacks nothing
+among_last : (names : List (List ℕ)) (name : List ℕ) → is_among (names ++ name ∷ []) name ≡ true
+among_last names name =
+    list_any-append (bytes_eq name) names (name ∷ [])
+    ∙ ap (λ t. is_among names name || (t || false)) ((bytes_eq-Decides name name).1 refl) ∙ or_true (is_among names name)
 
-pub both_of : (s t : Bool) → (s && t) ≡ true → (s ≡ true) × (t ≡ true)
-both_of true t h = (refl, h)
-both_of false t h = cc
+module _ (d : Described) (s : IsSound d) (name : List ℕ) (new : is_among d.declared.names name ≡ false) where
+  abbrev more : List (List ℕ)
+  more = d.declared.names ++ name ∷ []
 
-width_of_class : (w : ℕ) → is_class_width w ≡ true → IsWidth w
-width_of_class w h = by_test (nat_eq w 8) (nat_eq w 16) (nat_eq w 32) refl refl refl h where
-  by_test : (a b c : Bool) → nat_eq w 8 ≡ a → nat_eq w 16 ≡ b → nat_eq w 32 ≡ c → (a || b || c) ≡ true → IsWidth w
-  by_test true b c x y z h = let e : w ≡ 8 = grind (arith, nat_tests) in inl e
-  by_test false true c x y z h = let e : w ≡ 16 = grind (arith, nat_tests) in inr (inl e)
-  by_test false false true x y z h = let e : w ≡ 32 = grind (arith, nat_tests) in inr (inr e)
-  by_test false false false x y z h = cc
+  -- each name of a description was declared, so that one that was not is new to it
+  pub new_name : IsNewName d.spec name
+  new_name =
+      All-weaker (λ n. is_among d.declared.names n ≡ true) (λ other. other ≢ name)
+      (λ other h e. let there : is_among d.declared.names name ≡ true = subst (λ n. is_among d.declared.names n ≡ true) e h in cc)
+      (names_of d.spec) s.within
 
-pub width_small : (w : ℕ) → is_class_width w ≡ true → w ≤ 32
-width_small w h = by_width (width_of_class w h) where
-  by_width : IsWidth w → w ≤ 32
-  by_width (inl e) = omega arith
-  by_width (inr (inl e)) = omega arith
-  by_width (inr (inr e)) = omega arith
+  -- the names of the description are among those with one more
+  pub within_more : All (λ n. is_among more n ≡ true) (names_of d.spec)
+  within_more =
+      All-weaker (λ n. is_among d.declared.names n ≡ true) (λ n. is_among more n ≡ true) (λ n h. among_more d.declared.names name n h)
+      (names_of d.spec) s.within
 
-le_of : (a b : ℕ) → nat_le a b ≡ true → a ≤ b
-le_of a b h = grind (arith, nat_tests)
+  -- one name more that stands for something sound
+  pub name_sound : (spec : Spec) (m : Meaning) → IsSpec spec → spec.constructors ≡ [] → All (λ n. is_among more n ≡ true) (names_of spec)
+      → All (IsSoundMeaning spec.tokens) d.declared.meanings → IsSoundMeaning spec.tokens m
+      → IsSound (record { spec = spec; declared = with_name d.declared name m })
+  name_sound spec m is plain within kept sound = record {
+    spec = is;
+    plain = plain;
+    meanings = length_push d.declared.meanings m ∙ ap (λ n. n + 1) s.meanings ∙ sym (length_push d.declared.names name);
+    distinct = distinct_push d.declared.names name s.distinct new;
+    within = within;
+    sound = All-push (IsSoundMeaning spec.tokens) d.declared.meanings m kept sound;
+  }
 
-lt_of : (a b : ℕ) → nat_lt a b ≡ true → a < b
-lt_of a b h = grind (arith, nat_tests)
+  class_names_within : All (λ n. is_among more n ≡ true) ((d.spec.class_names ++ name ∷ []) ++ d.spec.field_names)
+  class_names_within =
+      let P = λ (n : List ℕ). is_among more n ≡ true in
+      All-append P (d.spec.class_names ++ name ∷ []) d.spec.field_names
+      (All-push P d.spec.class_names name (All-front P d.spec.class_names d.spec.field_names within_more) (among_last d.declared.names name))
+      (All-back P d.spec.class_names d.spec.field_names within_more)
 
-lt_is : (a b : ℕ) → a < b → nat_lt a b ≡ true
-lt_is a b h = grind (arith, nat_tests)
+  field_names_within : All (λ n. is_among more n ≡ true) (d.spec.class_names ++ (d.spec.field_names ++ name ∷ []))
+  field_names_within =
+      let P = λ (n : List ℕ). is_among more n ≡ true in
+      All-append P d.spec.class_names (d.spec.field_names ++ name ∷ []) (All-front P d.spec.class_names d.spec.field_names within_more)
+      (All-push P d.spec.field_names name (All-back P d.spec.class_names d.spec.field_names within_more) (among_last d.declared.names name))
 
--- fields of a narrow class are fields of a wide one
-pub wider_fields : (w v : ℕ) (fields : List FieldTree) → w ≤ v → list_all (is_field_of w) fields ≡ true → list_all (is_field_of v) fields ≡ true
-wider_fields w v [] le h = refl
-wider_fields w v (f ∷ fs) le h =
-    let parts = both_of (is_field_of w f) (list_all (is_field_of w) fs) h in
-    let bits = both_of (nat_le (number_value f.lo) (number_value f.hi)) (nat_lt (number_value f.hi) w) parts.0 in
-    let within = lt_of (number_value f.hi) w bits.1 in
-    rw (bits.0, lt_is (number_value f.hi) v (omega arith), wider_fields w v fs le parts.1) refl
+  module _ (spec : Spec) (is : IsSpec spec) (declared : Declared) where
+    -- the name of a class that was added
+    pub class_sound : (class : Class) (id : ClassId) → id.0 ≡ length d.spec.tokens.classes
+        → spec ≡ record d.spec { tokens = record d.spec.tokens { classes = d.spec.tokens.classes ++ class ∷ [] }; class_names = d.spec.class_names ++ name ∷ [] }
+        → declared ≡ with_name d.declared name (meaning.Class id) → IsSound (record { spec = spec; declared = declared })
+    class_sound class id number added named =
+        let tokens : Tokens = record { classes = d.spec.tokens.classes ++ class ∷ []; fields = d.spec.tokens.fields } in
+        let whole : Spec = record { tokens = tokens; class_names = d.spec.class_names ++ name ∷ []; field_names = d.spec.field_names; constructors = d.spec.constructors } in
+        let classes : IsKept d.spec.tokens.classes tokens.classes = slice_get-front d.spec.tokens.classes (class ∷ []) in
+        let there : IsSome (slice_get tokens.classes id.0) =
+        ap (λ k. is_some (slice_get tokens.classes k)) number ∙ ap is_some (slice_get-push d.spec.tokens.classes class) in
+        subst (λ (x : Spec). IsSound (record { spec = x; declared = declared })) (sym added)
+        (subst (λ (x : Declared). IsSound (record { spec = whole; declared = x })) (sym named)
+        (name_sound whole (meaning.Class id) (subst IsSpec added is) s.plain class_names_within
+        (meanings_kept d.spec.tokens tokens classes (λ k h. refl) d.declared.meanings s.sound) there))
 
-module _ (width : List ℕ) where
-  abbrev class_of : Class
-  class_of = record { width = number_value width; order = Big }
-
-  fields_sound : (fields : List FieldTree) → list_all (is_field_of (number_value width)) fields ≡ true → All (IsFieldOf (class_of ∷ [])) (map field_of fields)
-  fields_sound [] h = All-nil (IsFieldOf (class_of ∷ []))
-  fields_sound (f ∷ fs) h =
-      let parts = both_of (is_field_of (number_value width) f) (list_all (is_field_of (number_value width)) fs) h in
-      let bits = both_of (nat_le (number_value f.lo) (number_value f.hi)) (nat_lt (number_value f.hi) (number_value width)) parts.0 in
-      All-cons (IsFieldOf (class_of ∷ [])) (field_of f) (map field_of fs) (le_of (number_value f.lo) (number_value f.hi) bits.0, lt_of (number_value f.hi) (number_value width) bits.1)
-      (fields_sound fs parts.1)
-
-  pub class_spec-built : (name : List ℕ) (fields : List FieldTree) → declares_once name fields ≡ true → has_widths width fields ≡ true → length fields < 2 ^ 31
-      → IsBuiltSpec (class_spec name width false fields)
-  class_spec-built name fields once widths few =
-      let parts = both_of (is_class_width (number_value width)) (list_all (is_field_of (number_value width)) fields) widths in
-      let count = length-map fields (λ (f : FieldTree). f.name) in
-      record {
-        tokens = record {
-          widths = All-cons (λ (c : Class). IsWidth c.width) class_of [] (width_of_class (number_value width) parts.0) (All-nil (λ (c : Class). IsWidth c.width));
-          fields = fields_sound fields parts.1;
-        };
-        one = omega arith;
-        classes = refl;
-        fields = count ∙ sym (length-map fields field_of);
-        few = omega (arith, count);
-        distinct = once;
-      }
+    -- the name of a field that was added
+    pub field_sound : (field : Field) (id : FieldId) → id.0 ≡ length d.spec.tokens.fields
+        → spec ≡ record d.spec { tokens = record d.spec.tokens { fields = d.spec.tokens.fields ++ field ∷ [] }; field_names = d.spec.field_names ++ name ∷ [] }
+        → declared ≡ with_name d.declared name (meaning.Field id) → IsSound (record { spec = spec; declared = declared })
+    field_sound field id number added named =
+        let tokens : Tokens = record { classes = d.spec.tokens.classes; fields = d.spec.tokens.fields ++ field ∷ [] } in
+        let whole : Spec = record { tokens = tokens; class_names = d.spec.class_names; field_names = d.spec.field_names ++ name ∷ []; constructors = d.spec.constructors } in
+        let fields : IsKept d.spec.tokens.fields tokens.fields = slice_get-front d.spec.tokens.fields (field ∷ []) in
+        let there : IsSome (slice_get tokens.fields id.0) =
+        ap (λ k. is_some (slice_get tokens.fields k)) number ∙ ap is_some (slice_get-push d.spec.tokens.fields field) in
+        subst (λ (x : Spec). IsSound (record { spec = x; declared = declared })) (sym added)
+        (subst (λ (x : Declared). IsSound (record { spec = whole; declared = x })) (sym named)
+        (name_sound whole (meaning.Field id) (subst IsSpec added is) s.plain field_names_within
+        (meanings_kept d.spec.tokens tokens (λ k h. refl) fields d.declared.meanings s.sound) there))

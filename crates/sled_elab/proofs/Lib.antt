@@ -1,7 +1,8 @@
 pub mod ActionLemmas
+pub mod Growing
 pub mod DescriptionLemmas
-pub mod ListLemmas
-pub mod NamesLemmas
+pub mod ClassLemmas
+pub mod ArmLemmas
 pub mod StatementLemmas
-pub mod TermLemmas
-pub mod TokenLemmas
+pub mod DefinitionLemmas
+pub mod DefinitionSound

@@ -2,7 +2,7 @@
 use Rattle.std.specs.Prelude.{ℕ, suc, ◌-◌, ◌==◌, Bool, not, ◌&&◌, List, [], ◌∷◌, ◌++◌, length, take, drop, Option, Some, None, option_map, if◌then◌else◌}
 use Rattle.sled_model.specs.declared.statement.Piece.{Piece}
 use Rattle.sled_model.specs.declared.statement.Piece.TheVariants.{Words, Bound}
-use Rattle.sled_elab.specs.Names.{position_of}
+use Rattle.tree_meaning.specs.Names.{position_of}
 
 -- the bytes of a Text without its quotation marks
 abbrev pub unquoted : List ℕ → List ℕ

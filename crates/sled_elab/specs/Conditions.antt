@@ -1,33 +1,51 @@
--- What a description and a statement have to meet, and the first that they lack. Tested so far are conditions 1 and 3 on a class,
--- and 2, 4, 9 and 16 on an arm.
-use Rattle.std.specs.Prelude.{ℕ, ◌+◌, Bool, not, ◌&&◌, ◌||◌, ◌==◌, nat_le, nat_lt, List, [], ◌∷◌, map, Option, Some, None, is_some, option_map, if◌then◌else◌}
+-- What a description and a statement have to meet, in the order of the conditions' numbers, and the first that they lack.
+use Rattle.std.specs.Prelude.{ℕ, ◌+◌, Bool, not, ◌&&◌, ◌||◌, ◌==◌, nat_le, nat_lt, List, [], ◌∷◌, ◌++◌, length, Option, Some, None, is_some, option_map, if◌then◌else◌}
 use Rattle.std.specs.List.{list_all}
 use Rattle.sled_lexer.specs.Spelled.{number_value}
 use Rattle.sled_parser.specs.declared.tree.Decl.{Decl}
 use Rattle.sled_parser.specs.declared.tree.Decl.TheVariants as decl
 use Rattle.sled_parser.specs.declared.tree.FieldTree.{FieldTree}
+use Rattle.sled_parser.specs.declared.tree.ItemTree.{ItemTree}
+use Rattle.sled_parser.specs.declared.tree.PatternTree.{PatternTree}
 use Rattle.sled_parser.specs.declared.tree.ArmTree.{ArmTree}
 use Rattle.sled_parser.specs.declared.tree.ArmsTree.{ArmsTree}
 use Rattle.sled_parser.specs.declared.tree.ArmsTree.TheVariants as arms
 use Rattle.sled_parser.specs.declared.tree.MatchTree.{MatchTree}
+use Rattle.sled_model.specs.declared.pattern.Pattern.{Pattern}
 use Rattle.sled_model.specs.declared.spec.Spec.{Spec}
+use Rattle.sled_model.specs.Shapes.{shapes, conjunctions_agree, chains_are_closed, are_closed, sides_have_one_shape, lengths_within}
+use Rattle.sled_model.specs.Measures.{pattern_weight, pattern_size, pattern_len}
+use Rattle.tree_meaning.specs.Names.{are_distinct, are_new}
+use Rattle.tree_meaning.specs.Scopes.{Declared}
+use Rattle.tree_meaning.specs.Parts.{labels, are_known, numbers_fit, generates_nothing, applies_nothing}
+use Rattle.tree_meaning.specs.declared.parts.Site.TheVariants as site
+use Rattle.tree_meaning.specs.Bindings.{bound, binds_once, sides_bind_alike, sides_bind_nothing, are_none}
+use Rattle.tree_meaning.specs.Patterns.{patterns_of}
 use Rattle.sled_elab.specs.declared.lack.Lack.{Lack}
 use Rattle.sled_elab.specs.declared.lack.Lack.TheVariants.{Condition, NotBuilt}
-use Rattle.sled_elab.specs.Names.{are_distinct}
-use Rattle.sled_elab.specs.Terms.{terms, term_pattern, term_fits, is_built_pattern}
 use Rattle.sled_elab.specs.Actions.{unquoted, action_pieces}
-use Rattle.sled_elab.specs.Meaning.{arm_names}
+use Rattle.sled_elab.specs.Declarations.{Described, nothing, class_names, definition_names, item_names, after}
+use Rattle.sled_elab.specs.Statements.{arm_names, arm_pattern}
 
 -- the number of the first condition that is unmet
 abbrev pub first_unmet : List (ℕ × Bool) → Option ℕ
 first_unmet [] = None
 first_unmet (c ∷ cs) = if c.1 then first_unmet cs else Some c.0
 
--- ---- a class
+-- what is lacking where a condition is unmet
+abbrev pub unmet_lack : List (ℕ × Bool) → Option Lack
+unmet_lack conditions = option_map Condition (first_unmet conditions)
 
--- condition 1, names are declared once: `fields of b (8) x 0:7` meets it, `fields of b (8) x 0:3 x 4:7` does not
-abbrev pub declares_once : List ℕ → List FieldTree → Bool
-declares_once name fields = are_distinct (name ∷ map (λ (f : FieldTree). f.name) fields)
+-- ---- conditions of declarations
+
+-- condition 1, names are declared once: none of the names was declared before, and none stands among them twice.
+-- `fields of b (8) x 0:7` meets it, `fields of b (8) x 0:3 x 4:7` does not.
+abbrev pub are_declared_once : Declared → List (List ℕ) → Bool
+are_declared_once declared names = are_new declared.names names && are_distinct names
+
+-- condition 1, a label is no declared name. Over `fields of b (8) x 0:7`, `L: x = 1` meets it, `x: x = 1` does not.
+abbrev pub labels_are_new : Declared → PatternTree → Bool
+labels_are_new declared tree = are_new declared.names (labels tree)
 
 abbrev pub is_class_width : ℕ → Bool
 is_class_width w = w == 8 || w == 16 || w == 32
@@ -39,40 +57,106 @@ is_field_of w f = nat_le (number_value f.lo) (number_value f.hi) && nat_lt (numb
 abbrev pub has_widths : List ℕ → List FieldTree → Bool
 has_widths width fields = is_class_width (number_value width) && list_all (is_field_of (number_value width)) fields
 
-abbrev pub class_conditions : List ℕ → List ℕ → List FieldTree → List (ℕ × Bool)
-class_conditions name width fields = (1, declares_once name fields) ∷ (3, has_widths width fields) ∷ []
+-- condition 5, choices are listed: a group names a member, and has a place in its list for each choice; no other pattern has
+-- generating expressions. `g [ p _ q ] is x = {1 to 3}` meets it, `g [ p q ] is x = {1 to 3}` and `p is x = {1 to 3}` do not.
+abbrev pub choices_are_listed : Declared → Option (List ItemTree) → PatternTree → Bool
+choices_are_listed declared None tree = generates_nothing tree
+choices_are_listed declared (Some items) tree = not (are_none (item_names items)) && (length items == length (patterns_of declared [] tree))
 
--- what declaration number n lacks: built is the first, where it is a class whose most significant byte comes first
-abbrev pub decl_lack : ℕ → Decl → Option Lack
-decl_lack n (decl.Class name width little fields) =
-    if n == 1 && not little then option_map Condition (first_unmet (class_conditions name width fields)) else Some NotBuilt
-decl_lack n _ = Some NotBuilt
+-- condition 9 of a definition, it binds nothing: `p is x = 1` meets it, `p is L: x = 1` does not
+abbrev pub binds_nothing : Declared → PatternTree → Bool
+binds_nothing declared tree = are_none (bound declared tree)
 
--- ---- an arm
+abbrev pub class_conditions : Described → List ℕ → List ℕ → List FieldTree → List (ℕ × Bool)
+class_conditions d name width fields = (1, are_declared_once d.declared (class_names name fields)) ∷ (3, has_widths width fields) ∷ []
 
--- condition 2, names are known: over `fields of b (8) x 0:7`, `x = 1` meets it, `y` and `b = 1` do not
-abbrev pub names_known : Spec → ArmTree → Bool
-names_known spec arm = list_all (λ t. is_some (term_pattern spec t)) (terms arm.pattern)
+-- the conditions of a definition on its names and numbers, and on what it is made of: `ps` are the patterns that it stands for
 
--- condition 4, constants are in range: over `x 0:7`, `x = 255` meets it, `x = 256` does not
-abbrev pub constants_fit : Spec → ArmTree → Bool
-constants_fit spec arm = list_all (term_fits spec) (terms arm.pattern)
+-- Condition 2, names are known: over `fields of b (8) x 0:7`, `p is x = 1` meets it, `p is x` and `p is y = 1` do not.
+-- Condition 4, numbers fit their fields: `p is x = 255` meets it, `p is x = 256` does not.
+abbrev pub naming_conditions : Described → List ℕ → Option (List ItemTree) → PatternTree → List (ℕ × Bool)
+naming_conditions d name items tree =
+    (1, are_declared_once d.declared (definition_names name items) && labels_are_new d.declared tree)
+    ∷ (2, are_known site.Definition d.declared tree)
+    ∷ (4, numbers_fit d.spec.tokens d.declared tree)
+    ∷ (5, choices_are_listed d.declared items tree)
+    ∷ []
 
--- condition 9, no name is bound twice: `x = 1 & x` meets it, `x & x` does not
-abbrev pub bound_once : Spec → ArmTree → Bool
-bound_once spec arm = are_distinct (arm_names spec arm)
+-- Condition 6, conjunctions agree: with `fields of h (16) y 0:15`, `p is x = 1 ... & (x = 1 ; y = 2)` meets it, `p is x = 1 & y = 2` does not.
+-- Condition 7, what stands before a `;` is closed: `p is x = 1 ; x = 2` meets it, `p is x = 1 ... ; x = 2` does not.
+-- Condition 8, the sides of a disjunction are alike: `p is x = 1 | x = 2` meets it, `p is x = 1 | y = 2` and `p is L: x = 1 | x = 2` do not.
+abbrev pub forming_conditions : Described → PatternTree → List Pattern → List (ℕ × Bool)
+forming_conditions d tree ps =
+    (6, list_all (conjunctions_agree d.spec.tokens) ps)
+    ∷ (7, list_all (chains_are_closed d.spec.tokens) ps)
+    ∷ (8, sides_bind_nothing d.declared tree && list_all (sides_have_one_shape d.spec.tokens) ps)
+    ∷ (9, binds_nothing d.declared tree)
+    ∷ []
+
+abbrev pub definition_conditions : Described → List ℕ → Option (List ItemTree) → PatternTree → List (ℕ × Bool)
+definition_conditions d name items tree = naming_conditions d name items tree ++ forming_conditions d tree (patterns_of d.declared [] tree)
+
+-- what a declaration lacks, over those before it: constructors are not built
+abbrev pub decl_lack : Described → Decl → Option Lack
+decl_lack d (decl.Class name width little fields) = unmet_lack (class_conditions d name width fields)
+decl_lack d (decl.Heading section) = None
+decl_lack d (decl.Definition name items tree) = unmet_lack (definition_conditions d name items tree)
+decl_lack d (decl.ConstructorDecl opcode operands result equations body) = Some NotBuilt
+
+-- ---- conditions of arms
+
+-- condition 7 of an arm: it has no loose end besides. `case x = 1` meets it, `case x = 1 ...` does not.
+abbrev pub is_closed_arm : Spec → Pattern → Bool
+is_closed_arm spec p = chains_are_closed spec.tokens p && are_closed (shapes spec.tokens p)
+
+-- condition 14, lengths: each alternative has 1 to 32 bytes, and so the longest has no more. `case x = 1` meets it, `case epsilon` does
+-- not.
+abbrev pub has_lengths : Spec → Pattern → Bool
+has_lengths spec p = lengths_within 1 32 spec.tokens (shapes spec.tokens p) && nat_le (pattern_len spec p) 32
+
+-- condition 15, weights and sizes: the weight is at most 4,096 and with those of the arms before at most 16,384, and the size is at
+-- most 256
+abbrev pub has_measure : Spec → ℕ → Pattern → Bool
+has_measure spec before p = nat_le (pattern_weight spec p) 4096 && nat_le (pattern_size spec p) 256 && nat_le (before + pattern_weight spec p) 16384
 
 -- condition 16, an action names what is bound: `x => "{x}"` meets it, `x = 1 => "{x}"` and `x => "{"` do not
-abbrev pub action_is_bound : Spec → ArmTree → Bool
-action_is_bound spec arm = is_some (action_pieces (arm_names spec arm) (unquoted arm.action))
+abbrev pub action_is_bound : Declared → ArmTree → Bool
+action_is_bound declared arm = is_some (action_pieces (arm_names declared arm) (unquoted arm.action))
 
-abbrev pub arm_conditions : Spec → ArmTree → List (ℕ × Bool)
-arm_conditions spec arm =
-    (2, names_known spec arm) ∷ (4, constants_fit spec arm) ∷ (9, bound_once spec arm) ∷ (16, action_is_bound spec arm) ∷ []
+abbrev pub arm_naming_conditions : Spec → Declared → PatternTree → List (ℕ × Bool)
+arm_naming_conditions spec declared tree =
+    (1, labels_are_new declared tree)
+    ∷ (2, are_known site.Arm declared tree)
+    ∷ (4, numbers_fit spec.tokens declared tree)
+    ∷ (5, generates_nothing tree)
+    ∷ []
 
--- what an arm lacks: built are words and equalities with `&` between
-abbrev pub arm_lack : Spec → ArmTree → Option Lack
-arm_lack spec arm = if is_built_pattern arm.pattern then option_map Condition (first_unmet (arm_conditions spec arm)) else Some NotBuilt
+-- of the pattern p that the tree stands for, where the arms before weigh so much: in an arm the sides of a disjunction bind the same
+-- names (condition 8), and no name is bound twice in an alternative (condition 9)
+abbrev pub arm_forming_conditions : Spec → Declared → ℕ → PatternTree → Pattern → List (ℕ × Bool)
+arm_forming_conditions spec declared before tree p =
+    (6, conjunctions_agree spec.tokens p)
+    ∷ (7, is_closed_arm spec p)
+    ∷ (8, sides_bind_alike declared tree)
+    ∷ (9, binds_once declared tree)
+    ∷ (14, has_lengths spec p)
+    ∷ (15, has_measure spec before p)
+    ∷ []
+
+abbrev pub arm_conditions : Spec → Declared → ℕ → ArmTree → List (ℕ × Bool)
+arm_conditions spec declared before arm =
+    arm_naming_conditions spec declared arm.pattern
+    ++ (arm_forming_conditions spec declared before arm.pattern (arm_pattern declared arm) ++ (16, action_is_bound declared arm) ∷ [])
+
+-- what an arm lacks: applications are not built
+abbrev pub arm_lack : Spec → Declared → ℕ → ArmTree → Option Lack
+arm_lack spec declared before arm =
+    if applies_nothing arm.pattern then unmet_lack (arm_conditions spec declared before arm) else Some NotBuilt
+
+-- condition 14 of the tail: a skip has 1 to 32 bytes
+abbrev pub skip_lack : Option (List ℕ) → Option Lack
+skip_lack None = None
+skip_lack (Some n) = if nat_le 1 (number_value n) && nat_le (number_value n) 32 then None else Some (Condition 14)
 
 -- ---- the first that lacks something, by its number
 
@@ -80,24 +164,31 @@ abbrev pub first_lack : ℕ → Option Lack → Option (ℕ × Lack) → Option 
 first_lack n None later = later
 first_lack n (Some l) later = Some (n, l)
 
--- from declaration number n on; a heading is no declaration
-abbrev pub decls_lack : ℕ → List Decl → Option (ℕ × Lack)
-decls_lack n [] = None
-decls_lack n (decl.Heading section ∷ ds) = decls_lack n ds
-decls_lack n (d ∷ ds) = first_lack n (decl_lack n d) (decls_lack (n + 1) ds)
+-- a heading has no number
+abbrev pub next_number : ℕ → Decl → ℕ
+next_number n (decl.Heading section) = n
+next_number n _ = n + 1
 
+-- from declaration number n on, each over those before it
+abbrev pub decls_lack : ℕ → Described → List Decl → Option (ℕ × Lack)
+decls_lack n d [] = None
+decls_lack n d (x ∷ xs) = first_lack n (decl_lack d x) (decls_lack (next_number n x) (after d x) xs)
+
+-- the first declaration that lacks something, and what it lacks
 abbrev pub description_lack : List Decl → Option (ℕ × Lack)
-description_lack ds = decls_lack 1 ds
+description_lack decls = decls_lack 1 nothing decls
 
--- from arm number n on, with what the tail lacks
-abbrev pub arms_lack : Spec → ℕ → List ArmTree → Bool → Option (ℕ × Lack)
-arms_lack spec n [] has_skip = if has_skip then Some (n, NotBuilt) else None
-arms_lack spec n (arm ∷ arms) has_skip = first_lack n (arm_lack spec arm) (arms_lack spec (n + 1) arms has_skip)
+-- from arm number n on, where those before it weigh so much; the tail counts as the arm past the last
+abbrev pub arms_lack : Spec → Declared → ℕ → ℕ → List ArmTree → Option (List ℕ) → Option (ℕ × Lack)
+arms_lack spec declared n before [] skip = first_lack n (skip_lack skip) None
+arms_lack spec declared n before (arm ∷ arms) skip =
+    first_lack n (arm_lack spec declared before arm)
+    (arms_lack spec declared (n + 1) (before + pattern_weight spec (arm_pattern declared arm)) arms skip)
 
-abbrev pub listed_lack : Spec → ArmsTree → Bool → Option (ℕ × Lack)
-listed_lack spec arms.All has_skip = Some (1, NotBuilt)
-listed_lack spec (arms.Listed as_they_stand) has_skip = arms_lack spec 1 as_they_stand has_skip
+abbrev pub listed_lack : Spec → Declared → ArmsTree → Option (List ℕ) → Option (ℕ × Lack)
+listed_lack spec declared arms.All skip = Some (1, NotBuilt)
+listed_lack spec declared (arms.Listed as_they_stand) skip = arms_lack spec declared 1 0 as_they_stand skip
 
--- built are listed arms without a tail
-abbrev pub statement_lack : Spec → MatchTree → Option (ℕ × Lack)
-statement_lack spec tree = listed_lack spec tree.arms (is_some tree.skip)
+-- the first arm that lacks something, and what it lacks: `all` is not built, and counts as arm 1
+abbrev pub statement_lack : Spec → Declared → MatchTree → Option (ℕ × Lack)
+statement_lack spec declared tree = listed_lack spec declared tree.arms tree.skip

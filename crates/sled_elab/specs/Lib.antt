@@ -1,9 +1,7 @@
-pub mod Names
-pub mod NameTables
-pub mod Terms
 pub mod Actions
-pub mod Meaning
-pub mod Conditions
-pub mod Built
 pub mod Steps
-pub mod Sections
+pub mod Declarations
+pub mod Statements
+pub mod Conditions
+pub mod Descriptions
+pub mod Refusals

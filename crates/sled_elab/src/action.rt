@@ -1,13 +1,13 @@
 // The text of an action, in pieces.
 ghost use Rattle.std.specs.Prelude.{◌≡◌, ◌<◌, ◌≤◌, ◌^◌, ◌++◌, ◌+◌, ◌∷◌, [], length, IfOk, OnOk, not, ◌==◌, take, drop, ℕ, List};
 ghost use Rattle.sled_elab.specs.Actions as of;
-ghost use Rattle.sled_elab.specs.NameTables.{table_names};
+ghost use Rattle.tree_meaning.specs.NameTables.{table_names};
 ghost use Rattle.sled_elab.specs.Steps.{Steps, StepsNamed};
 
-use crate::names::NameTable;
 use sled_base::NoMemory;
 use sled_model::{Name, Piece, PieceList};
 use std::alloc::Global;
+use tree_meaning::NameTable;
 
 /// Where a step through the text leads.
 #[derive(Clone, Copy)]

@@ -1,18 +1,22 @@
 //! What declarations and arms stand for: the model of a description and of a statement, or the first that lacks something.
 //!
-//! Built so far are descriptions of at most one token class, and listed arms of words and equalities with `&` between. Each other form
-//! of the language is refused as not built, with the number of its declaration or arm.
+//! Built so far are classes, patterns and groups, and arms without applications. Constructors, applications and `match all` are refused as
+//! not built, with the number of their declaration or arm.
 #![tactic(auto)]
 
 mod action;
+mod arm;
+mod class;
+mod declarations;
+mod definition;
 mod description;
+mod first;
 mod lack;
-mod names;
 mod statement;
-mod terms;
 #[cfg(test)]
 mod tests;
 
-pub use description::elaborate;
+pub use declarations::{describe, elaborate, scope_of};
+pub use description::Description;
 pub use lack::{ElabFault, Lack};
 pub use statement::elaborate_match;

@@ -1,59 +1,63 @@
--- A pattern of one token looks at no byte behind the token.
-use Rattle.std.proofs.Common.{◌≡◌, ℕ, ◌+◌, ◌/◌, ◌<◌, ◌≤◌, ◌⊎◌, inl, inr, cond, leb, min, List, [], ◌∷◌, length, take, All, Some, None, refl, sym, ap, ◌∙◌, arith}
-use Rattle.std.proofs.lemmas.Bool.{le-leb, lt-leb, cases_lt}
-use Rattle.std.proofs.lemmas.List.{take-take, length-take}
-use Rattle.std.proofs.lemmas.List.Elements.{All-head, All-tail}
-use Rattle.sled_model.specs.declared.tokens.Class.{Class}
-use Rattle.sled_model.specs.declared.tokens.ClassId.{ClassId}
-use Rattle.sled_model.specs.declared.tokens.Tokens.{Tokens}
-use Rattle.sled_model.specs.declared.pattern.Pattern.{Pattern}
+-- The first result is a matter of its own bytes: as many as a match may take decide it.
+use Rattle.std.proofs.Common.{◌≡◌, ℕ, ◌+◌, ◌≤◌, true, List, [], ◌∷◌, length, take, All, Option, Some, refl, sym, ap, ◌∙◌, subst, arith}
+use Rattle.std.proofs.lemmas.Bool.{le-leb, leb-true}
+use Rattle.std.proofs.Math.Seq.{take-length}
+use Rattle.std.proofs.lemmas.List.Elements.{All-head, All-tail, All-weaker}
+use Rattle.sled_model.specs.declared.raw.Match.{Match}
 use Rattle.sled_model.specs.declared.spec.Spec.{Spec}
 use Rattle.sled_model.specs.declared.statement.Arm.{Arm}
-use Rattle.sled_model.specs.Tokens.{byte_count, token, number_of, in_order, AreTokens, IsWidth}
-use Rattle.sled_model.specs.Results.{Context, results, arm_context, arm_results}
-use Rattle.sled_model.specs.First.{first_from, first_or}
-use Rattle.sled_model.specs.Simple.{IsSimple, IsSimpleArm, class_len}
-use Rattle.sled_model.proofs.SimpleLemmas.{simple_class, class_len-known, results_by_token, All-slice_get}
+use Rattle.sled_model.specs.declared.statement.Statement.{Statement}
+use Rattle.sled_model.specs.Results.{arm_results}
+use Rattle.sled_model.specs.First.{first, first_from, first_or}
+use Rattle.sled_model.specs.PlainStatements.{IsMatchLength, IsBoundedArm, IsPlainArm, IsPlainStatement}
+use Rattle.sled_model.proofs.Filters.{filter-all, filter-passes}
+use Rattle.sled_model.proofs.Local.{ends_within, arm-local}
 
-fits_front : (k n m : ℕ) → k ≤ n → leb k (min n m) ≡ leb k m
-fits_front k n m h = by_order (cases_lt m k)
-  where
-    by_order : (m < k) ⊎ (k ≤ m) → leb k (min n m) ≡ leb k m
-    by_order (inl less) = lt-leb k (min n m) (omega arith) ∙ sym (lt-leb k m less)
-    by_order (inr more) = le-leb k (min n m) (omega arith) ∙ sym (le-leb k m more)
+-- the results of an arm, none of which is longer than a match may be
+pub arm-front : (spec : Spec) (arm : Arm) (bytes : List ℕ) (n : ℕ) → IsBoundedArm spec arm → 32 ≤ n → arm_results spec arm (take n bytes) 0 ≡ arm_results spec arm bytes 0
+arm-front spec arm bytes n bounded h =
+    arm-local spec arm bytes 0 n (omega arith)
+    ∙ filter-all (ends_within 0 n) (arm_results spec arm bytes 0)
+    (All-weaker (λ (m : Match). IsMatchLength m.len) (λ m. ends_within 0 n m ≡ true) (λ m len. le-leb (0 + m.len) n (omega arith)) (arm_results spec arm bytes 0) (bounded bytes))
 
-pub token-front : (class : Class) (bytes : List ℕ) (n : ℕ) → byte_count class ≤ n → token class (take n bytes) 0 ≡ token class bytes 0
-token-front class bytes n h =
-    let k = 0 + byte_count class in
-    ap (λ b. cond b (Some (number_of (in_order class.order (take (byte_count class) (take n bytes))))) None) (ap (leb k) (length-take n bytes) ∙ fits_front k n (length bytes) (omega arith))
-    ∙ ap (λ front. cond (leb k (length bytes)) (Some (number_of (in_order class.order front))) None) (take-take (byte_count class) n bytes h)
+pub first_from-front : (k : ℕ) (spec : Spec) (arms : List Arm) (bytes : List ℕ) (n : ℕ) → All (IsPlainArm spec) arms → 32 ≤ n → first_from k spec arms (take n bytes) ≡ first_from k spec arms bytes
+first_from-front k spec [] bytes n h le = refl
+first_from-front k spec (arm ∷ arms) bytes n h le =
+    ap (λ found. first_or k found (first_from (k + 1) spec arms (take n bytes))) (arm-front spec arm bytes n (All-head (IsPlainArm spec) arm arms h).bounded le)
+    ∙ ap (first_or k (arm_results spec arm bytes 0)) (first_from-front (k + 1) spec arms bytes n (All-tail (IsPlainArm spec) arm arms h) le)
 
-pub results-front : (tokens : Tokens) (class : ClassId) (p : Pattern) (cx : Context) (bytes : List ℕ) (n : ℕ) → AreTokens tokens → IsSimple tokens class p → cx.tokens ≡ tokens → class_len tokens class ≤ n
-    → results cx p (take n bytes) 0 ≡ results cx p bytes 0
-results-front tokens class p cx bytes n sound h same fits =
-    let cl = simple_class tokens class p sound h in
-    let shorter : byte_count cl.0 ≤ n = omega (arith, class_len-known tokens class cl.0 cl.1.0) in
-    results_by_token tokens class cl.0 cl.1.0 (take n bytes) cx same p h (token cl.0 bytes 0) (token-front cl.0 bytes n shorter)
-    ∙ sym (results_by_token tokens class cl.0 cl.1.0 bytes cx same p h (token cl.0 bytes 0) refl)
+-- no result is longer than the bytes
+pub arm-within : (spec : Spec) (arm : Arm) (bytes : List ℕ) → All (λ (m : Match). m.len ≤ length bytes) (arm_results spec arm bytes 0)
+arm-within spec arm bytes =
+    let same = arm-local spec arm bytes 0 (length bytes) (omega arith) in
+    let whole : take (length bytes) bytes ≡ bytes = take-length bytes in
+    let all = filter-passes (ends_within 0 (length bytes)) (arm_results spec arm bytes 0) in
+    All-weaker (λ m. ends_within 0 (length bytes) m ≡ true) (λ (m : Match). m.len ≤ length bytes) (λ m e. omega (arith, leb-true (0 + m.len) (length bytes) e)) (arm_results spec arm bytes 0)
+    (subst (All (λ m. ends_within 0 (length bytes) m ≡ true)) (sym same ∙ ap (λ bs. arm_results spec arm bs 0) whole) all)
 
-four_bytes : (width : ℕ) → IsWidth width → width / 8 ≤ 4
-four_bytes width (inl e) = omega arith
-four_bytes width (inr (inl e)) = omega arith
-four_bytes width (inr (inr e)) = omega arith
+-- what holds of each result of each arm holds of the first
+module _ (P : Match → Type 0) (spec : Spec) (bytes : List ℕ) (j : ℕ) (m : Match) where
+  first_or-has : (k : ℕ) (found : List Match) (later : Option (ℕ × Match)) → All P found → first_or k found later ≡ Some (j, m) → (later ≡ Some (j, m) → P m) → P m
+  first_or-has k [] later h e further = further e
+  first_or-has k (a ∷ more) later h e further = let pair : (let p : ℕ × Match = (k, a) in p) ≡ (j, m) = cc in subst P (ap (λ (p : ℕ × Match). p.1) pair) (All-head P a more h)
 
-pub class_len-most : (tokens : Tokens) (class : ClassId) (p : Pattern) → AreTokens tokens → IsSimple tokens class p → class_len tokens class ≤ 4
-class_len-most tokens class p sound h =
-    let cl = simple_class tokens class p sound h in
-    let most = four_bytes cl.0.width (All-slice_get (λ (k : Class). IsWidth k.width) tokens.classes class.0 cl.0 cl.1.0 sound.widths) in
-    omega (arith, class_len-known tokens class cl.0 cl.1.0, most)
+  pub first_from-has : (k : ℕ) (arms : List Arm) → All (λ arm. All P (arm_results spec arm bytes 0)) arms → first_from k spec arms bytes ≡ Some (j, m) → P m
+  first_from-has k [] h e = absurd (cc)
+  first_from-has k (arm ∷ arms) h e =
+      let Q = λ (a : Arm). All P (arm_results spec a bytes 0) in
+      first_or-has k (arm_results spec arm bytes 0) (first_from (k + 1) spec arms bytes) (All-head Q arm arms h) e
+      (λ later. first_from-has (k + 1) arms (All-tail Q arm arms h) later)
 
--- so four bytes decide which of the arms is first, where each is of one token
-pub first_from-front : (k : ℕ) (spec : Spec) (arms : List Arm) (bytes : List ℕ) (n : ℕ) → AreTokens spec.tokens → All (IsSimpleArm spec) arms → 4 ≤ n
-    → first_from k spec arms (take n bytes) ≡ first_from k spec arms bytes
-first_from-front k spec [] bytes n sound h four = refl
-first_from-front k spec (arm ∷ arms) bytes n sound h four =
-    let simple = All-head (IsSimpleArm spec) arm arms h in
-    let most = class_len-most spec.tokens simple.0 arm.pattern sound simple.1 in
-    ap (λ found. first_or k found (first_from (k + 1) spec arms (take n bytes)))
-    (results-front spec.tokens simple.0 arm.pattern (arm_context spec) bytes n sound simple.1 refl (omega arith))
-    ∙ ap (first_or k (arm_results spec arm bytes 0)) (first_from-front (k + 1) spec arms bytes n sound (All-tail (IsSimpleArm spec) arm arms h) four)
+module _ (spec : Spec) (statement : Statement) (plain : IsPlainStatement spec statement) (bytes : List ℕ) where
+  pub first-front : (n : ℕ) → 32 ≤ n → first spec statement (take n bytes) ≡ first spec statement bytes
+  first-front n h = first_from-front 0 spec statement.arms bytes n plain.arms h
+
+  pub first-length : (k : ℕ) (m : Match) → first spec statement bytes ≡ Some (k, m) → IsMatchLength m.len
+  first-length k m e =
+      first_from-has (λ (a : Match). IsMatchLength a.len) spec bytes k m 0 statement.arms
+      (All-weaker (IsPlainArm spec) (λ arm. All (λ (a : Match). IsMatchLength a.len) (arm_results spec arm bytes 0)) (λ arm h. h.bounded bytes) statement.arms plain.arms) e
+
+  pub first-within : (k : ℕ) (m : Match) → first spec statement bytes ≡ Some (k, m) → m.len ≤ length bytes
+  first-within k m e =
+      first_from-has (λ (a : Match). a.len ≤ length bytes) spec bytes k m 0 statement.arms
+      (All-weaker (IsPlainArm spec) (λ arm. All (λ (a : Match). a.len ≤ length bytes) (arm_results spec arm bytes 0)) (λ arm h. arm-within spec arm bytes) statement.arms plain.arms) e

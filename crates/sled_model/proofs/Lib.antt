@@ -1,12 +1,14 @@
-pub mod Numbers
-pub mod TokensWithin
 pub mod Lists
 pub mod Equations
-pub mod Known
+pub mod MeasureLaws
+pub mod SpecLemmas
 pub mod Within
-pub mod SimpleLemmas
-pub mod FirstLemmas
+pub mod Filters
+pub mod Local
 pub mod Front
-pub mod NameValues
 pub mod Worked
-mod TestTerms
+pub mod Members
+pub mod ShapeLemmas
+pub mod ShapeResults
+pub mod ShapeEquations
+pub mod ShapeLengths

@@ -1,7 +1,7 @@
 -- What the definitions say of a few patterns and bytes.
 use Rattle.std.proofs.Common.{◌≡◌, [], ◌∷◌}
-use Rattle.sled_model.specs.declared.tokens.Tokens.{Tokens}
-use Rattle.sled_model.specs.declared.tokens.Order.TheVariants.{Big}
+use Rattle.token_bits.specs.declared.tokens.Tokens.{Tokens}
+use Rattle.token_bits.specs.declared.tokens.Order.TheVariants.{Big}
 use Rattle.sled_model.specs.declared.pattern.Pattern.TheVariants.{Limit, Bind, Both}
 use Rattle.sled_model.specs.declared.pattern.Relation.TheVariants.{Equal}
 use Rattle.sled_model.specs.declared.raw.RawEntry.TheVariants.{Value}

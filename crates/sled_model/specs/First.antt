@@ -4,7 +4,7 @@ use Rattle.std.specs.List.{filter_map}
 use Rattle.std.specs.Option.{option_map_or}
 use Rattle.std.specs.Str.{bytes_eq}
 use Rattle.std.specs.Prelude.{Bool, false}
-use Rattle.sled_model.specs.declared.tokens.FieldId.{FieldId}
+use Rattle.token_bits.specs.declared.tokens.FieldId.{FieldId}
 use Rattle.sled_model.specs.declared.raw.Match.{Match}
 use Rattle.sled_model.specs.declared.raw.RawEntry.{RawEntry}
 use Rattle.sled_model.specs.declared.raw.RawEntry.TheVariants.{Value, Mark}

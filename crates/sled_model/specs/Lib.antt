@@ -1,5 +1,7 @@
-pub mod Tokens
 pub mod Results
+pub mod Specs
 pub mod First
-pub mod Simple
-pub mod OneToken
+pub mod PlainStatements
+pub mod Measures
+pub mod Leaves
+pub mod Shapes

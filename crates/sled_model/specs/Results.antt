@@ -1,9 +1,9 @@
 -- What a pattern means at a place of a list of bytes: its results, in order.
 use Rattle.std.specs.Prelude.{ℕ, ◌+◌, max, nat_le, nat_lt, ◌==◌, Bool, true, false, not, ◌&&◌, List, [], ◌∷◌, ◌++◌, map, filter, fold, slice_get, position, Option, Some, None, option_and_then, if◌then◌else◌}
 use Rattle.std.specs.List.{flat_map}
-use Rattle.sled_model.specs.declared.tokens.ClassId.{ClassId}
-use Rattle.sled_model.specs.declared.tokens.FieldId.{FieldId}
-use Rattle.sled_model.specs.declared.tokens.Tokens.{Tokens}
+use Rattle.token_bits.specs.declared.tokens.ClassId.{ClassId}
+use Rattle.token_bits.specs.declared.tokens.FieldId.{FieldId}
+use Rattle.token_bits.specs.declared.tokens.Tokens.{Tokens}
 use Rattle.sled_model.specs.declared.constructor.TypeId.{TypeId}
 use Rattle.sled_model.specs.declared.constructor.OperandKind.{OperandKind}
 use Rattle.sled_model.specs.declared.constructor.OperandKind.TheVariants.{Typed}
@@ -19,7 +19,7 @@ use Rattle.sled_model.specs.declared.pattern.Argument.{Argument}
 use Rattle.sled_model.specs.declared.pattern.Argument.TheVariants.{Inner'}
 use Rattle.sled_model.specs.declared.pattern.Pattern.{Pattern, Row_of-Pattern, end_of-Pattern, more_of-Pattern, Row_of-Argument, more_of-Argument, items-the_row-Argument}
 use Rattle.sled_model.specs.declared.pattern.Pattern.TheVariants.{Token, Limit, Bind, Operand, Label', Both', Either', Chain', Loose', Apply', Empty}
-use Rattle.sled_model.specs.Tokens.{token, byte_count, token_len, value_at}
+use Rattle.token_bits.specs.Tokens.{token, byte_count, token_len, value_at}
 
 -- the results at an offset of a list of bytes
 abbrev pub Meaning : Type 0

@@ -1,6 +1,7 @@
 // Constructors, with their operands and equations.
-use crate::{FieldId, Pattern};
+use crate::Pattern;
 use sqlite_items::Items;
+use token_bits::FieldId;
 
 /// The bytes of a name.
 pub type Name = Items<u8>;

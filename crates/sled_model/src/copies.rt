@@ -103,8 +103,9 @@ fn copy_patterns(alloc: Global, patterns: &[Pattern]) -> Result<Items<Pattern>, 
     Ok(copied)
 }
 
+/// Equal arguments.
 #[cycle(pattern_copy)]
-fn copy_arguments(alloc: Global, arguments: &[Argument]) -> Result<Items<Argument>, NoMemory>
+pub fn copy_arguments(alloc: Global, arguments: &[Argument]) -> Result<Items<Argument>, NoMemory>
     ensures { IfOk result (λ ps. ps ≡ arguments.now) }
 {
     let mut copied = Items::new(alloc);

@@ -1,5 +1,5 @@
-//! The model of a machine and of its instructions: token classes and fields, patterns and what they mean on bytes,
-//! constructors, instances, and statements.
+//! The model of a machine and of its instructions: descriptions, patterns and what they mean on bytes, constructors,
+//! instances, and statements.
 #![tactic(auto)]
 
 mod constructor;
@@ -9,23 +9,24 @@ mod instance;
 mod pattern;
 mod plain;
 mod raw;
-mod simple;
+mod shape;
 mod spec;
 mod statement;
 #[cfg(test)]
 mod tests;
-mod tokens;
+mod values;
 
 pub use constructor::{
     Atom, Constructor, ConstructorId, ConstructorList, Equation, EquationList, KindList, Name,
     NameList, OperandKind, Term, TermList, TypeId,
 };
-pub use first_arm::{first, first_simple};
+pub use copies::copy_arguments;
+pub use first_arm::first;
 pub use instance::{Instance, LabelId, Operand, OperandList};
 pub use pattern::{Argument, ArgumentList, Pattern, PatternList, Relation};
 pub use plain::results;
 pub use raw::{Match, MatchList, Raw, RawEntry, RawList};
-pub use simple::{match_simple, simple_len};
+pub use shape::{ClassIdList, Shape, ShapeList};
 pub use spec::Spec;
 pub use statement::{Arm, ArmList, Piece, PieceList, Statement};
-pub use tokens::{Class, ClassId, ClassList, Field, FieldId, FieldList, Order, Tokens};
+pub use values::{is_named, name_value};

@@ -2,8 +2,9 @@
 ghost use Rattle.std.specs.Prelude.{◌≡◌};
 ghost use Rattle.sled_model.specs.Results.{has_relation};
 
-use crate::{ClassId, ConstructorId, FieldId};
+use crate::ConstructorId;
 use sqlite_items::{Boxed, Items};
+use token_bits::{ClassId, FieldId};
 
 /// How a field's value stands to a number.
 #[derive(Clone, Copy, Debug, PartialEq, Eq)]

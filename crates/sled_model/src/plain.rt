@@ -1,15 +1,15 @@
 // The results of a pattern by the definition, step for step.
 ghost use Rattle.std.specs.Prelude.{◌≡◌, ◌+◌, ◌^◌, ◌<◌, ◌≤◌, ◌≢◌, ◌++◌, length, map, filter, All, IfOk, OnOk, IfSome, OnSome};
 ghost use Rattle.std.specs.List.{flat_map, fold};
-ghost use Rattle.sled_model.specs.Tokens.{AreTokens};
+ghost use Rattle.token_bits.specs.Tokens.{AreTokens};
 ghost use Rattle.sled_model.specs.Results.{alone, results as results_of, fold_meanings, chain, both, either, chain_match, agrees as agrees_with, both_match, one_match as one_match_of, class_results as class_results_of, limit_results as limit_results_of, bind_results as bind_results_of, label_match, loose_match};
 
 use crate::copies::copy_entries;
-use crate::tokens::token_at;
-use crate::{ClassId, FieldId, Match, Pattern, RawEntry, Relation, Tokens};
+use crate::{Match, Pattern, RawEntry, Relation};
 use sled_base::NoMemory;
 use sqlite_items::Items;
 use std::alloc::Global;
+use token_bits::{ClassId, FieldId, Tokens};
 
 fn agrees(a: &Match, b: &Match) -> bool
     ensures { result ≡ agrees_with a.now b.now }
@@ -48,7 +48,7 @@ fn class_results(
     let Some(class) = tokens.class(class) else {
         return Ok(Items::new(alloc));
     };
-    match token_at(class, window, at) {
+    match class.token_at(window, at) {
         None => Ok(Items::new(alloc)),
         Some(_) => one_match(alloc, Items::new(alloc), class.byte_count()),
     }

@@ -1,6 +1,7 @@
 // Results of patterns.
-use crate::{Argument, ConstructorId, FieldId};
+use crate::{Argument, ConstructorId};
 use sqlite_items::Items;
+use token_bits::FieldId;
 
 /// What was bound inside a constructor's body.
 #[cycle(raw)]

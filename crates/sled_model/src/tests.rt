@@ -1,23 +1,21 @@
 ghost use Rattle.std.specs.Prelude.{IfOk, ◌≤◌, ◌<◌, ◌≡◌, [], ◌∷◌};
-ghost use Rattle.sled_model.specs.Tokens.{AreTokens};
-ghost use Rattle.sled_model.specs.Simple.{IsOfClass};
+ghost use Rattle.token_bits.specs.Tokens.{AreTokens};
 
 use crate::{
-    Arm, Class, ConstructorId, Field, FieldId, Instance, Operand, Order, Pattern, RawEntry,
-    Relation, Spec, Statement, Tokens, first, first_simple, match_simple, results, simple_len,
+    Arm, ConstructorId, Instance, Name, Operand, Pattern, RawEntry, Relation, Spec, Statement,
+    first, is_named, name_value, results,
 };
 use sled_base::NoMemory;
 use sqlite_items::{Boxed, Items};
 use std::alloc::Global;
 use std::test::Fail;
+use token_bits::{Class, ClassId, Field, FieldId, Order, Tokens};
 
 /// Fields 0, with bits lo to hi, and 1, with bits 0 to 15, of a class of 32 bits.
 fn tokens(alloc: Global, order: Order, lo: u8, hi: u8) -> Result<Tokens, NoMemory>
     requires place { lo ≤ hi }
     requires within { hi < 32 }
-    ensures sound { IfOk result AreTokens }
-    ensures first { IfOk result (λ tokens. IsOfClass tokens (record { 0 = 0 }) (record { 0 = 0 })) }
-    ensures second { IfOk result (λ tokens. IsOfClass tokens (record { 0 = 0 }) (record { 0 = 1 })) }
+    ensures { IfOk result AreTokens }
 {
     let mut tokens = Tokens::new(alloc);
     let class = tokens.add_class(Class { width: 32, order })?;
@@ -31,9 +29,7 @@ fn tokens(alloc: Global, order: Order, lo: u8, hi: u8) -> Result<Tokens, NoMemor
 }
 
 /// The relation `field 0 = value` and the bare field 1.
-fn equal_and_bare(alloc: Global, value: u32) -> Result<Pattern, NoMemory>
-    ensures { IfOk result (λ p. p ≡ Pattern.Both (Pattern.Limit (record { 0 = 0 }) Relation.Equal value ∷ Pattern.Bind (record { 0 = 1 }) ∷ [])) }
-{
+fn equal_and_bare(alloc: Global, value: u32) -> Result<Pattern, NoMemory> {
     let mut terms = Items::new(alloc);
     terms.push(Pattern::Limit {
         field: FieldId(0),
@@ -62,64 +58,6 @@ fn one_result_of_a_conjunction(rt: HostRuntime) -> Result<(), Fail> {
             })
         )
     );
-    Ok(())
-}
-
-/// The length and the one value of `field 0 = 1 & field 1` on the window, where field 0 has bits 24 to 31.
-fn read(alloc: Global, window: &[u8]) -> Result<Option<(usize, u32)>, NoMemory> {
-    let tokens = tokens(alloc, Order::Big, 24, 31)?;
-    let pattern = equal_and_bare(alloc, 1)?;
-    let mut values = Vec::new(alloc);
-    if match_simple(&tokens, &pattern, window, &mut values)? {
-        let len = simple_len(&tokens, &pattern);
-        return Ok(values.pop().map(|value| (len, value)));
-    }
-    Ok(None)
-}
-
-#[test]
-fn the_same_by_match_simple(rt: HostRuntime) -> Result<(), Fail> {
-    assert_eq!(rt; read(rt.alloc(), &[1, 0, 0, 5, 9])?, Some((4, 5)));
-    assert_eq!(rt; read(rt.alloc(), &[2, 0, 0, 5])?, None);
-    assert_eq!(rt; read(rt.alloc(), &[1, 0, 0])?, None);
-    assert_eq!(rt; read(rt.alloc(), &[])?, None);
-    Ok(())
-}
-
-#[test]
-fn fields_of_both_orders(rt: HostRuntime) -> Result<(), Fail> {
-    let rows = [
-        (Order::Big, 0, 31, 0x78563412),
-        (Order::Little, 0, 31, 0x12345678),
-        (Order::Little, 4, 4, 1),
-        (Order::Little, 7, 7, 0),
-        (Order::Big, 31, 31, 0),
-        (Order::Big, 30, 30, 1),
-    ];
-    for (order, lo, hi, want) in rows {
-        let tokens = tokens(rt.alloc(), order, lo, hi)?;
-        let window = [9, 0x78, 0x56, 0x34, 0x12];
-        assert_eq!(rt; tokens.field_value(FieldId(0), &window, 1), Some(want));
-        assert_eq!(rt; tokens.field_value(FieldId(0), &window, 2), None);
-    }
-    Ok(())
-}
-
-#[test]
-fn a_little_halfword(rt: HostRuntime) -> Result<(), Fail> {
-    let mut tokens = Tokens::new(rt.alloc());
-    let class = tokens.add_class(Class {
-        width: 16,
-        order: Order::Little,
-    })?;
-    let field = tokens.add_field(Field {
-        class,
-        lo: 0,
-        hi: 15,
-    })?;
-    assert_eq!(rt; tokens.class(class).map(|c| c.byte_count()), Some(2));
-    assert_eq!(rt; tokens.field(field).map(|f| f.hi), Some(15));
-    assert_eq!(rt; tokens.field_value(field, &[0x34, 0x12], 0), Some(0x1234));
     Ok(())
 }
 
@@ -158,47 +96,101 @@ fn a_label_behind_a_relation(rt: HostRuntime) -> Result<(), Fail> {
     Ok(())
 }
 
-/// The number of the first arm on the window, where the one arm is `field 0 = 1 & field 1`: by `first`, and by `first_simple`.
-fn firsts(alloc: Global, window: &[u8; 4]) -> Result<(Option<usize>, Option<usize>), NoMemory> {
-    let tokens = tokens(alloc, Order::Big, 24, 31)?;
-    let pattern = equal_and_bare(alloc, 1)?;
-    let spec = Spec {
+/// A description with these tokens, whose field 1 is named `lo`.
+fn description(alloc: Global, tokens: Tokens) -> Result<Spec, NoMemory>
+    ensures tokens { IfOk result (λ spec. spec.tokens ≡ tokens) }
+    ensures plain { IfOk result (λ spec. spec.constructors ≡ []) }
+{
+    let mut field_names = Items::new(alloc);
+    field_names.push(Items::from_slice(alloc, b"op")?)?;
+    field_names.push(Items::from_slice(alloc, b"lo")?)?;
+    Ok(Spec {
         tokens,
         class_names: Items::new(alloc),
-        field_names: Items::new(alloc),
+        field_names,
         constructors: Items::new(alloc),
-    };
+    })
+}
+
+/// The number of the first arm on the window, where the arms are `field 0 = 1 & field 1` and `field 0 = 3 & field 1`.
+fn first_number(alloc: Global, window: &[u8; 4]) -> Result<Option<usize>, NoMemory> {
+    let spec = description(alloc, tokens(alloc, Order::Big, 24, 31)?)?;
     let mut arms = Items::new(alloc);
-    arms.push(Arm {
-        pattern,
-        names: Items::new(alloc),
-        action: Items::new(alloc),
-    })?;
+    for value in [1, 3] {
+        arms.push(Arm {
+            pattern: equal_and_bare(alloc, value)?,
+            names: Items::new(alloc),
+            action: Items::new(alloc),
+        })?;
+    }
     let statement = Statement { arms, skip: None };
-    let slow = first(alloc, &spec, &statement, window)?.map(|found| found.0);
-    let mut values = Vec::new(alloc);
-    let fast = first_simple(&spec, &statement, window, &mut values)?;
-    Ok((slow, fast))
+    Ok(first(alloc, &spec, &statement, window)?.map(|found| found.0))
 }
 
 #[test]
 fn the_first_arm(rt: HostRuntime) -> Result<(), Fail> {
-    assert_eq!(rt; firsts(rt.alloc(), &[1, 0, 0, 5])?, (Some(0), Some(0)));
-    assert_eq!(rt; firsts(rt.alloc(), &[2, 0, 0, 5])?, (None, None));
+    assert_eq!(rt; first_number(rt.alloc(), &[1, 0, 0, 5])?, Some(0));
+    assert_eq!(rt; first_number(rt.alloc(), &[3, 0, 0, 5])?, Some(1));
+    assert_eq!(rt; first_number(rt.alloc(), &[2, 0, 0, 5])?, None);
     Ok(())
 }
 
 #[test]
-fn names_and_copies(rt: HostRuntime) -> Result<(), Fail> {
-    let mut field_names = Items::new(rt.alloc());
-    field_names.push(Items::from_slice(rt.alloc(), b"op")?)?;
-    let spec = Spec {
-        tokens: Tokens::new(rt.alloc()),
-        class_names: Items::new(rt.alloc()),
-        field_names,
-        constructors: Items::new(rt.alloc()),
+fn the_names_of_a_result(rt: HostRuntime) -> Result<(), Fail> {
+    let spec = description(rt.alloc(), tokens(rt.alloc(), Order::Big, 0, 7)?)?;
+    let mut names = Items::new(rt.alloc());
+    names.push(Items::from_slice(rt.alloc(), b"here")?)?;
+    names.push(Items::from_slice(rt.alloc(), b"lo")?)?;
+    let arm = Arm {
+        pattern: chain(rt.alloc())?,
+        names,
+        action: Items::new(rt.alloc()),
     };
-    assert_eq!(rt; spec.field_name(FieldId(0)), Some(b"op".as_slice()));
+    let window = [0, 0, 0, 1, 0, 0, 2, 0, 7];
+    let found = results(rt.alloc(), spec.tokens(), &arm.pattern, &window, 0)?;
+    let binds = found.get(0).ok_or("no result")?.binds.as_slice();
+    assert!(rt; is_named(&spec, FieldId(1), b"lo"));
+    assert_eq!(rt; name_value(&spec, &arm, 100, binds, 0), Some(104));
+    assert_eq!(rt; name_value(&spec, &arm, 100, binds, 1), Some(512));
+    assert_eq!(rt; name_value(&spec, &arm, 100, binds, 2), None);
+    Ok(())
+}
+
+fn name(alloc: Global, text: &[u8]) -> Result<Name, NoMemory>
+    ensures { IfOk result (λ name. name ≡ text.now) }
+{
+    Ok(Items::from_slice(alloc, text)?)
+}
+
+/// A description with the class `word` and its field `op`.
+fn word_and_op(alloc: Global) -> Result<(Spec, ClassId, FieldId), NoMemory> {
+    let mut spec = Spec::new(alloc);
+    let word = Class {
+        width: 16,
+        order: Order::Little,
+    };
+    let class = spec.add_class(name(alloc, b"word")?, word)?;
+    let op = Field {
+        class,
+        lo: 12,
+        hi: 15,
+    };
+    let field = spec.add_field(name(alloc, b"op")?, op)?;
+    Ok((spec, class, field))
+}
+
+#[test]
+fn a_description_that_grows(rt: HostRuntime) -> Result<(), Fail> {
+    let (spec, class, field) = word_and_op(rt.alloc())?;
+    assert_eq!(rt; (class, field), (ClassId(0), FieldId(0)));
+    assert_eq!(rt; spec.tokens().token_len(field), 2);
+    assert_eq!(rt; spec.field_name(field), Some(b"op".as_slice()));
+    assert_eq!(rt; spec.field_name(FieldId(1)), None);
+    Ok(())
+}
+
+#[test]
+fn a_copy_of_an_instance(rt: HostRuntime) -> Result<(), Fail> {
     let mut operands = Items::new(rt.alloc());
     operands.push(Operand::Num(-3))?;
     let inner = Instance {

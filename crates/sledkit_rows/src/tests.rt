@@ -9,7 +9,27 @@ const SPEC: &str = "fields of w (32) op 24:31 v 0:23";
 
 const MATCH: &str = "match case op = 1 & v => \"load {v}\" case op = 2 => \"stop\"";
 
+const BYTE: &str = "fields of b (8) x 0:7";
+
+const GROUP: &str = "fields of b (8) x 0:7 patterns g [ p _ q ] is x = {1 to 3}";
+
+const BYTE_AND_LONG: &str = "fields of b (8) x 0:7 fields of w (32) v 0:31";
+
+const BYTE_AND_HALF: &str = "fields of b (8) x 0:7 hi 4:7 fields of h (16 little) y 0:15";
+
 const USAGE: &str = "usage: sledkit dis SPEC MATCH BASE\n";
+
+// Arms of the greatest weight, 8 for each of four parts multiplied; the greatest sum of weights; and one more of each.
+const GREATEST_WEIGHTS: &str = "match case x != 0 ; x != 1 ; x != 2 ; x != 3 => \"a\"
+    case x != 0 ; x != 1 ; x != 2 ; x != 3 => \"b\" case x != 0 ; x != 1 ; x != 2 ; x != 3 => \"c\"
+    case x != 0 ; x != 1 ; x != 2 ; x != 3 => \"d\"";
+
+const WEIGHT_ONE_TOO_HIGH: &str =
+    "case x != 0 ; x != 1 ; x != 2 ; x != 3 | x = 0 ; x = 1 ; x = 2 ; x = 3 => \"a\"";
+
+const SUM_ONE_TOO_HIGH: &str = "case x != 0 ; x != 1 ; x != 2 ; x != 3 => \"a\"
+    case x != 0 ; x != 1 ; x != 2 ; x != 3 => \"b\" case x != 0 ; x != 1 ; x != 2 ; x != 3 => \"c\"
+    case x != 0 ; x != 1 ; x != 2 ; x != 3 => \"d\" case x = 0 => \"e\"";
 
 const LOAD_AND_STOP: &[u8] = b"\x01\0\0\x05\x02\0\0\0";
 
@@ -62,7 +82,6 @@ fn sound<'a>(spec: &'a str, matching: &'a str, input: &'a [u8]) -> Outside<'a> {
 
 #[test]
 fn listings(rt: HostRuntime) -> Result<(), Fail> {
-    let byte = "fields of b (8) x 0:7";
     let any_byte = "match case x => \"{x}\"";
     // SPEC, MATCH, BASE, the input; the status, the output, the notes.
     let rows: [(&str, &str, &str, &[u8], Status, &str, &str); 8] = [
@@ -105,7 +124,7 @@ fn listings(rt: HostRuntime) -> Result<(), Fail> {
             "input: error 10: address 2^32 reached at 100000000\n",
         ),
         (
-            byte,
+            BYTE,
             any_byte,
             "4294967292",
             b"\x01\x02\x03\x04\x05",
@@ -137,10 +156,168 @@ fn listings(rt: HostRuntime) -> Result<(), Fail> {
 }
 
 #[test]
+fn listings_of_wider_forms(rt: HostRuntime) -> Result<(), Fail> {
+    let labels =
+        "match case x = 1 ; here: y => \"{here} {y}\" case hi = 2 ... & (x ; y) => \"pair {x} {y}\"";
+    let skip = "match case x > 4 | x = 0 => \"a\" else skip 2";
+    let long = "match case x = 1 ; v => \"long {v}\" case x = 1 => \"short\" else skip 3";
+    let members = "match case p => \"p\" case g => \"g\" case b => \"byte\"";
+    // SPEC, MATCH, BASE, the input; the output.
+    let rows: [(&str, &str, &str, &[u8], &str); 6] = [
+        (
+            BYTE,
+            "match case x = 1 ... & (x = 1 ; x = 2) => \"two\" case x = 3 ... & x => \"one {x}\"",
+            "0",
+            b"\x01\x02\x03",
+            "00000000: 0102  two\n00000002: 03  one 3\n",
+        ),
+        (BYTE, GREATEST_WEIGHTS, "0", b"", ""),
+        (
+            GROUP,
+            members,
+            "0",
+            b"\x01\x02\x03",
+            "00000000: 01  p\n00000001: 02  byte\n00000002: 03  g\n",
+        ),
+        (
+            BYTE_AND_HALF,
+            labels,
+            "0x100",
+            b"\x01\x02\x00\x21\x34\x12",
+            "00000100: 010200  257 2\n00000103: 213412  pair 33 4660\n",
+        ),
+        (
+            BYTE,
+            skip,
+            "0",
+            b"\x05\x00\x04\x01",
+            "00000000: 05  a\n00000001: 00  a\n00000002: 0401  .skip 2\n",
+        ),
+        (
+            BYTE_AND_LONG,
+            long,
+            "0",
+            b"\x01\x00\x00\x00",
+            "00000000: 01  short\n00000001: 000000  .skip 3\n",
+        ),
+    ];
+    for (spec, matching, base, input, output) in rows {
+        let (found, out, notes) = answer(
+            rt.alloc(),
+            &["dis", "s", "m", base],
+            &sound(spec, matching, input),
+        )?;
+        assert_eq!(rt; found, Status::Done);
+        assert_eq!(rt; out.bytes(), output.as_bytes());
+        assert!(rt; notes.bytes().is_empty());
+    }
+    Ok(())
+}
+
+#[test]
+fn conditions_of_declarations(rt: HostRuntime) -> Result<(), Fail> {
+    // What stands behind the class of bytes; the number of the declaration and the condition.
+    let rows: [(&str, u64, u64); 13] = [
+        ("patterns g [ p q ] is x = {1 to 3}", 2, 5),
+        ("patterns p is x = {1 to 3}", 2, 5),
+        ("patterns p is x", 2, 2),
+        ("patterns p is q", 2, 2),
+        ("patterns p is L: x = 1", 2, 9),
+        ("patterns p is x: x = 1", 2, 1),
+        ("patterns p is x = 1 p is x = 2", 3, 1),
+        ("patterns p is x = 1 ... ; x = 2", 2, 7),
+        ("patterns p is x = 256", 2, 4),
+        ("fields of c (8) z 0:8", 2, 3),
+        ("fields of h (16) y 0:15 patterns p is x = 1 & y = 2", 3, 6),
+        ("fields of h (16) y 0:15 patterns p is x = 1 | y = 2", 3, 8),
+        ("patterns p is L: x = 1 | x = 2", 2, 8),
+    ];
+    for (more, number, condition) in rows {
+        let spec = format!(in rt.alloc(); "{BYTE} {more}")?;
+        let told = format!(in rt.alloc();
+            "s: error 8: declaration {number} does not meet condition {condition}\n"
+        )?;
+        let (found, out, notes) = answer(
+            rt.alloc(),
+            &["dis", "s", "m", "0"],
+            &sound(spec.as_str(), "match", b"\0"),
+        )?;
+        assert_eq!(rt; found, Status::Refused(8));
+        assert!(rt; out.bytes().is_empty());
+        assert_eq!(rt; notes.bytes(), told.as_bytes());
+    }
+    Ok(())
+}
+
+#[test]
+fn conditions_of_arms(rt: HostRuntime) -> Result<(), Fail> {
+    // SPEC, MATCH; the number of the arm and the condition.
+    let rows: [(&str, &str, u64, u64); 13] = [
+        (BYTE, "case x = 1 => \"a\" else skip 0", 2, 14),
+        (BYTE, "case x = 1 => \"a\" else skip 33", 2, 14),
+        (BYTE, "else skip 33", 1, 14),
+        (BYTE, "case epsilon => \"e\"", 1, 14),
+        (BYTE, "case x = 1 ... => \"a\"", 1, 7),
+        (BYTE, "case x | x = 1 => \"{x}\"", 1, 8),
+        (BYTE, "case x & x => \"a\"", 1, 9),
+        (BYTE, "case x = {1 2} => \"a\"", 1, 5),
+        (BYTE_AND_LONG, "case x & v => \"a\"", 1, 6),
+        (BYTE, "case (x ; x) ... & x => \"a\"", 1, 6),
+        (BYTE, WEIGHT_ONE_TOO_HIGH, 1, 15),
+        (BYTE, SUM_ONE_TOO_HIGH, 5, 15),
+        (BYTE, "case x => \"{x}\" case here: x => \"{y}\"", 2, 16),
+    ];
+    for (spec, arms, number, condition) in rows {
+        let matching = format!(in rt.alloc(); "match {arms}")?;
+        let told = format!(in rt.alloc();
+            "m: error 8: arm {number} does not meet condition {condition}\n"
+        )?;
+        let (found, out, notes) = answer(
+            rt.alloc(),
+            &["dis", "s", "m", "0"],
+            &sound(spec, matching.as_str(), b"\0"),
+        )?;
+        assert_eq!(rt; found, Status::Refused(8));
+        assert!(rt; out.bytes().is_empty());
+        assert_eq!(rt; notes.bytes(), told.as_bytes());
+    }
+    Ok(())
+}
+
+#[test]
+fn accepted_descriptions(rt: HostRuntime) -> Result<(), Fail> {
+    let little = "fields of w (32 little)";
+    let (sparc, mips, i486) = (
+        without_constructors(SPARC),
+        without_constructors(MIPS),
+        without_constructors(I486),
+    );
+    for spec in [GROUP, little, BYTE_AND_HALF, sparc, mips, i486] {
+        let (found, out, notes) = answer(
+            rt.alloc(),
+            &["dis", "s", "m", "0"],
+            &sound(spec, "match", b""),
+        )?;
+        assert_eq!(rt; found, Status::Done);
+        assert!(rt; out.bytes().is_empty());
+        assert!(rt; notes.bytes().is_empty());
+    }
+    Ok(())
+}
+
+// What stands before the word that heads the constructors.
+fn without_constructors(text: &str) -> &str {
+    match text.split_once("constructors") {
+        Some((before, _)) => before,
+        None => text,
+    }
+}
+
+#[test]
 fn refused_texts(rt: HostRuntime) -> Result<(), Fail> {
     let deep = "match case (((((((((((((((((((((((((((((((((((((((((((((((((((((((((((((((((";
     // SPEC, MATCH; the number and the notes.
-    let rows: [(&str, &str, u8, &str); 18] = [
+    let rows: [(&str, &str, u8, &str); 17] = [
         (
             "fields of w (32) x 0:7 $",
             "",
@@ -194,8 +371,8 @@ fn refused_texts(rt: HostRuntime) -> Result<(), Fail> {
         (
             SPEC,
             "match case op = 1 | v => \"x\"",
-            90,
-            "m: error 90: arm 1 is not built yet\n",
+            8,
+            "m: error 8: arm 1 does not meet condition 8\n",
         ),
         (
             SPEC,
@@ -205,15 +382,9 @@ fn refused_texts(rt: HostRuntime) -> Result<(), Fail> {
         ),
         (
             SPEC,
-            "match case op => \"x\" else skip 4",
+            "match case k(a) => \"x\"",
             90,
-            "m: error 90: arm 2 is not built yet\n",
-        ),
-        (
-            "fields of w (32 little)",
-            "",
-            90,
-            "s: error 90: declaration 1 is not built yet\n",
+            "m: error 90: arm 1 is not built yet\n",
         ),
         (
             "constructors c() is epsilon",
@@ -225,19 +396,19 @@ fn refused_texts(rt: HostRuntime) -> Result<(), Fail> {
             SPARC,
             "",
             90,
-            "s: error 90: declaration 2 is not built yet\n",
+            "s: error 90: declaration 9 is not built yet\n",
         ),
         (
             MIPS,
             "",
             90,
-            "s: error 90: declaration 2 is not built yet\n",
+            "s: error 90: declaration 16 is not built yet\n",
         ),
         (
             I486,
             "",
             90,
-            "s: error 90: declaration 2 is not built yet\n",
+            "s: error 90: declaration 16 is not built yet\n",
         ),
     ];
     for (spec, matching, number, told) in rows {

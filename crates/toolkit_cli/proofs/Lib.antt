@@ -1,5 +1,5 @@
 pub mod Addresses
-pub mod FewLemmas
+pub mod RangeLemmas
 pub mod TextLemmas
 pub mod StandsLemmas
 pub mod ReplyLaws

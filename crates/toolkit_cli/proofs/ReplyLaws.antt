@@ -16,14 +16,15 @@ use Rattle.sled_parser.proofs.Only.{one_statement}
 use Rattle.sled_model.specs.declared.spec.Spec.{Spec}
 use Rattle.sled_model.specs.declared.statement.Statement.{Statement}
 use Rattle.sled_elab.specs.declared.lack.Lack.{Lack}
-use Rattle.sled_elab.specs.Conditions.{description_lack, statement_lack}
-use Rattle.sled_elab.specs.Meaning.{spec_of, statement_of}
+use Rattle.sled_elab.specs.Conditions.{description_lack}
+use Rattle.sled_elab.specs.Declarations.{Described, described}
+use Rattle.sled_elab.specs.Statements.{statement_of}
 use Rattle.toolkit_cli.specs.declared.messages.Unit.{Unit as Part}
 use Rattle.toolkit_cli.specs.declared.messages.Unit.TheVariants as part
 use Rattle.toolkit_cli.specs.declared.messages.Problem.{Problem}
 use Rattle.toolkit_cli.specs.declared.messages.Problem.TheVariants as problem
 use Rattle.toolkit_cli.specs.Words.{Words}
-use Rattle.toolkit_cli.specs.Texts.{IsLexed, IsParsed, IsNoSentence, NestsDeep, IsRefused, IsDescribed, RefusesDescription, IsStated, RefusesStatement, lack_problem}
+use Rattle.toolkit_cli.specs.Texts.{IsLexed, IsParsed, IsNoSentence, NestsDeep, IsRefused, IsDescribed, RefusesDescription, lack_over, IsStated, RefusesStatement, lack_problem}
 use Rattle.std.specs.Option.{ForSome}
 use Rattle.toolkit_cli.specs.Reply.{Settled, Shelved, no_form, refused_text, accepted, SettlesDis, Settles, TellsTexts, Reply, reply}
 use Rattle.toolkit_cli.specs.Stands.{Answered}
@@ -169,10 +170,10 @@ whole_stands IsTree only lacks unit text tree p parsed met h =
 
 -- ---- descriptions
 
-pub one_described : (text : List ℕ) (a b : Spec) → IsDescribed text a → IsDescribed text b → a ≡ b
-one_described text a b x y = x.same ∙ ap spec_of (one_tree IsDescription one_description text x.tree y.tree x.parsed y.parsed) ∙ sym y.same
+pub one_described : (text : List ℕ) (a b : Described) → IsDescribed text a → IsDescribed text b → a ≡ b
+one_described text a b x y = x.same ∙ ap described (one_tree IsDescription one_description text x.tree y.tree x.parsed y.parsed) ∙ sym y.same
 
-pub described_stands : (text : List ℕ) (a : Spec) (p : Problem) → IsDescribed text a → ¬ RefusesDescription text p
+pub described_stands : (text : List ℕ) (a : Described) (p : Problem) → IsDescribed text a → ¬ RefusesDescription text p
 described_stands text a p x h = whole_stands IsDescription one_description description_lack part.Declaration text x.tree p x.parsed x.met h
 
 pub one_refusal_of_spec : (text : List ℕ) (p q : Problem) → RefusesDescription text p → RefusesDescription text q → p ≡ q
@@ -180,14 +181,14 @@ one_refusal_of_spec text p q x y = one_refusal IsDescription one_description des
 
 -- ---- statements over a description
 
-pub one_stated : (spec : Spec) (text : List ℕ) (a b : Statement) → IsStated spec text a → IsStated spec text b → a ≡ b
-one_stated spec text a b x y = x.same ∙ ap (statement_of spec) (one_tree IsStatement one_statement text x.tree y.tree x.parsed y.parsed) ∙ sym y.same
+pub one_stated : (d : Described) (text : List ℕ) (a b : Statement) → IsStated d text a → IsStated d text b → a ≡ b
+one_stated d text a b x y = x.same ∙ ap (statement_of d.declared) (one_tree IsStatement one_statement text x.tree y.tree x.parsed y.parsed) ∙ sym y.same
 
-pub stated_stands : (spec : Spec) (text : List ℕ) (a : Statement) (p : Problem) → IsStated spec text a → ¬ RefusesStatement spec text p
-stated_stands spec text a p x h = whole_stands IsStatement one_statement (statement_lack spec) part.Arm text x.tree p x.parsed x.met h
+pub stated_stands : (d : Described) (text : List ℕ) (a : Statement) (p : Problem) → IsStated d text a → ¬ RefusesStatement d text p
+stated_stands d text a p x h = whole_stands IsStatement one_statement (lack_over d) part.Arm text x.tree p x.parsed x.met h
 
-pub one_refusal_of_match : (spec : Spec) (text : List ℕ) (p q : Problem) → RefusesStatement spec text p → RefusesStatement spec text q → p ≡ q
-one_refusal_of_match spec text p q x y = one_refusal IsStatement one_statement (statement_lack spec) part.Arm text p q x y
+pub one_refusal_of_match : (d : Described) (text : List ℕ) (p q : Problem) → RefusesStatement d text p → RefusesStatement d text q → p ≡ q
+one_refusal_of_match d text p q x y = one_refusal IsStatement one_statement (lack_over d) part.Arm text p q x y
 
 -- ---- what words and texts come to
 
@@ -196,30 +197,31 @@ pub settled_by_spec : (words : Words) (shelf : Shelved) (t : List ℕ) (p : Prob
 settled_by_spec words shelf t p no_form told refuses x = absurd x
 settled_by_spec words shelf t p (refused_text name q) told refuses (inl h) = ap (λ (n : List ℕ). refused_text n q) h.0 ∙ ap (refused_text words.spec) (one_refusal_of_spec t q p (h.1.1 t told) refuses)
 settled_by_spec words shelf t p (refused_text name q) told refuses (inr h) = absurd (described_stands t h.1.0 p (h.1.1.1 t told) refuses)
-settled_by_spec words shelf t p (accepted spec statement base) told refuses x = absurd (described_stands t spec p (x.1.1 t told) refuses)
+settled_by_spec words shelf t p (accepted spec statement base) told refuses x = absurd (described_stands t x.1.0 p (x.1.2.1 t told) refuses)
 
 -- where SPEC makes a description and MATCH is refused over it, it comes to that
-pub settled_by_match : (words : Words) (shelf : Shelved) (t m : List ℕ) (spec : Spec) (p : Problem) (a : Settled) → shelf.text words.spec ≡ Some t → shelf.text words.matching ≡ Some m
-    → IsDescribed t spec → RefusesStatement spec m p → SettlesDis words shelf a → a ≡ refused_text words.matching p
-settled_by_match words shelf t m spec p no_form told_spec told_match makes refuses x = absurd x
-settled_by_match words shelf t m spec p (refused_text name q) told_spec told_match makes refuses (inl h) = absurd (described_stands t spec q makes (h.1.1 t told_spec))
-settled_by_match words shelf t m spec p (refused_text name q) told_spec told_match makes refuses (inr h) =
-    let over : RefusesStatement spec m q = subst (λ (s : Spec). RefusesStatement s m q) (one_described t h.1.0 spec (h.1.1.1 t told_spec) makes) (h.1.2.1 m told_match) in
-    ap (λ (n : List ℕ). refused_text n q) h.0 ∙ ap (refused_text words.matching) (one_refusal_of_match spec m q p over refuses)
-settled_by_match words shelf t m spec p (accepted other statement base) told_spec told_match makes refuses x =
-    absurd (stated_stands spec m statement p (subst (λ (s : Spec). IsStated s m statement) (one_described t other spec (x.1.1 t told_spec) makes) (x.2.1 m told_match)) refuses)
+pub settled_by_match : (words : Words) (shelf : Shelved) (t m : List ℕ) (d : Described) (p : Problem) (a : Settled) → shelf.text words.spec ≡ Some t → shelf.text words.matching ≡ Some m
+    → IsDescribed t d → RefusesStatement d m p → SettlesDis words shelf a → a ≡ refused_text words.matching p
+settled_by_match words shelf t m d p no_form told_spec told_match makes refuses x = absurd x
+settled_by_match words shelf t m d p (refused_text name q) told_spec told_match makes refuses (inl h) = absurd (described_stands t d q makes (h.1.1 t told_spec))
+settled_by_match words shelf t m d p (refused_text name q) told_spec told_match makes refuses (inr h) =
+    let over : RefusesStatement d m q = subst (λ (e : Described). RefusesStatement e m q) (one_described t h.1.0 d (h.1.1.1 t told_spec) makes) (h.1.2.1 m told_match) in
+    ap (λ (n : List ℕ). refused_text n q) h.0 ∙ ap (refused_text words.matching) (one_refusal_of_match d m q p over refuses)
+settled_by_match words shelf t m d p (accepted spec statement base) told_spec told_match makes refuses x =
+    absurd (stated_stands d m statement p (subst (λ (e : Described). IsStated e m statement) (one_described t x.1.0 d (x.1.2.1 t told_spec) makes) (x.1.3.1 m told_match)) refuses)
 
 -- where both are accepted it comes to what they make, with the base of the words
-pub settled_by_both : (words : Words) (shelf : Shelved) (t m : List ℕ) (spec : Spec) (statement : Statement) (a : Settled) → shelf.text words.spec ≡ Some t → shelf.text words.matching ≡ Some m
-    → IsDescribed t spec → IsStated spec m statement → SettlesDis words shelf a → a ≡ accepted spec statement words.base
-settled_by_both words shelf t m spec statement no_form told_spec told_match makes states x = absurd x
-settled_by_both words shelf t m spec statement (refused_text name q) told_spec told_match makes states (inl h) = absurd (described_stands t spec q makes (h.1.1 t told_spec))
-settled_by_both words shelf t m spec statement (refused_text name q) told_spec told_match makes states (inr h) =
-    absurd (stated_stands spec m statement q states (subst (λ (s : Spec). RefusesStatement s m q) (one_described t h.1.0 spec (h.1.1.1 t told_spec) makes) (h.1.2.1 m told_match)))
-settled_by_both words shelf t m spec statement (accepted other stated base) told_spec told_match makes states x =
-    let same : other ≡ spec = one_described t other spec (x.1.1 t told_spec) makes in
-    let over : IsStated spec m stated = subst (λ (s : Spec). IsStated s m stated) same (x.2.1 m told_match) in
-    ap (λ (s : Spec). accepted s stated base) same ∙ ap (λ (s : Statement). accepted spec s base) (one_stated spec m stated statement over states) ∙ ap (accepted spec statement) x.0
+pub settled_by_both : (words : Words) (shelf : Shelved) (t m : List ℕ) (d : Described) (statement : Statement) (a : Settled) → shelf.text words.spec ≡ Some t → shelf.text words.matching ≡ Some m
+    → IsDescribed t d → IsStated d m statement → SettlesDis words shelf a → a ≡ accepted d.spec statement words.base
+settled_by_both words shelf t m d statement no_form told_spec told_match makes states x = absurd x
+settled_by_both words shelf t m d statement (refused_text name q) told_spec told_match makes states (inl h) = absurd (described_stands t d q makes (h.1.1 t told_spec))
+settled_by_both words shelf t m d statement (refused_text name q) told_spec told_match makes states (inr h) =
+    absurd (stated_stands d m statement q states (subst (λ (e : Described). RefusesStatement e m q) (one_described t h.1.0 d (h.1.1.1 t told_spec) makes) (h.1.2.1 m told_match)))
+settled_by_both words shelf t m d statement (accepted spec stated base) told_spec told_match makes states x =
+    let same : x.1.0 ≡ d = one_described t x.1.0 d (x.1.2.1 t told_spec) makes in
+    let over : IsStated d m stated = subst (λ (e : Described). IsStated e m stated) same (x.1.3.1 m told_match) in
+    ap (λ (s : Spec). accepted s stated base) (x.1.1 ∙ ap (λ (e : Described). e.spec) same)
+    ∙ ap (λ (s : Statement). accepted d.spec s base) (one_stated d m stated statement over states) ∙ ap (accepted d.spec statement) x.0
 
 -- all that they come to is one
 record Comes (words : Words) (shelf : Shelved) : Type 0 where
@@ -232,7 +234,7 @@ comes words shelf t m (refused_text name p) told_spec told_match (inl h) = recor
 comes words shelf t m (refused_text name p) told_spec told_match (inr h) =
     record { to = refused_text words.matching p; only = λ b y. settled_by_match words shelf t m h.1.0 p b told_spec told_match (h.1.1.1 t told_spec) (h.1.2.1 m told_match) y }
 comes words shelf t m (accepted spec statement base) told_spec told_match x =
-    record { to = accepted spec statement words.base; only = λ b y. settled_by_both words shelf t m spec statement b told_spec told_match (x.1.1 t told_spec) (x.2.1 m told_match) y }
+    record { to = accepted x.1.0.spec statement words.base; only = λ b y. settled_by_both words shelf t m x.1.0 statement b told_spec told_match (x.1.2.1 t told_spec) (x.1.3.1 m told_match) y }
 
 -- words and told texts come to one thing at most
 pub one_settled : (words : Words) (shelf : Shelved) (spec matching : List ℕ) (a b : Settled) → shelf.text words.spec ≡ Some spec → shelf.text words.matching ≡ Some matching

@@ -1,7 +1,7 @@
 -- How what stands after a part of a run makes what stands after the whole.
 use Rattle.std.proofs.Common.{◌≡◌, ◌⊎◌, inl, inr, ℕ, zero, suc, take, ◌≤◌, List, [], length, Some, None, refl, sym, ◌∙◌, ap, subst, append-nil, arith}
 use Rattle.std.proofs.Math.Seq.{take-length}
-use Rattle.std.specs.Prelude.{Option, codes}
+use Rattle.std.specs.Prelude.{Option, option_map, codes}
 use Rattle.std.specs.Option.{ForSome}
 use Rattle.std.specs.Io.KnownBytes.{Appends, Keeps}
 use Rattle.sled_base.specs.Causes.{Rose}
@@ -11,7 +11,6 @@ use Rattle.sled_model.specs.declared.statement.Statement.{Statement}
 use Rattle.match_engine.specs.declared.listing.Stop.{Stop}
 use Rattle.match_engine.specs.Listing.{listing}
 use Rattle.match_engine.specs.Listed.{WroteListing}
-use Rattle.sled_elab.proofs.StatementLemmas.{map_some}
 use Rattle.toolkit_cli.specs.declared.status.Status.{Status}
 use Rattle.toolkit_cli.specs.declared.status.Status.TheVariants.{Done, Refused, Usage, ReadFault, WriteFault, NoMemory}
 use Rattle.toolkit_cli.specs.declared.messages.Problem.{Problem}
@@ -23,6 +22,13 @@ use Rattle.toolkit_cli.specs.Messages.{message, problem_number, usage_text}
 use Rattle.toolkit_cli.specs.Reply.{Settled, Shelved, no_form, refused_text, accepted, Settles, Reply, reply, refused, listing_reply, listed_reply, stop_problem, usage_reply}
 use Rattle.toolkit_cli.specs.Told.{Told}
 use Rattle.toolkit_cli.specs.Stands.{Change, HasFailed, Gets, GetsPrefix, GetsNothing, IsReply, OutFailed, NotesFailed, HasPart, IsAnswer, Answered, Stands, StopTold, UnreadByWords, AcceptsByWords}
+
+-- where a mapped option is one, the option is
+map_some : {A B : Type 0} (o : Option A) (f : A → B) (r : B) → option_map f o ≡ Some r → (a : A) × (o ≡ Some a) × (f a ≡ r)
+map_some None f r e = cc
+map_some (Some a) f r e = (a, refl, some_same (f a) r e) where
+  some_same : {C : Type 0} (x y : C) → Some x ≡ Some y → x ≡ y
+  some_same x y e = cc
 
 -- a count that rose later has risen
 pub Rose-later : (a b c : ℕ) → a ≤ b → Rose b c → Rose a c
@@ -221,7 +227,7 @@ silent : (asked : Option Words) (shelf : Shelved) (input : Option (List ℕ)) (s
 silent None shelf input s so = inr (usage_reply, ap (λ (x : Settled). reply x input) so, refl)
 silent (Some words) shelf input no_form so = absurd so
 silent (Some words) shelf input (refused_text name p) so = inr (refused [] name p, refl, refl)
-silent (Some words) shelf input (accepted spec statement base) so = inl (spec, statement, so.1, so.2)
+silent (Some words) shelf input (accepted spec statement base) so = inl (so.1.0, statement, so.1.2, so.1.3)
 
 -- so nothing is written there
 untouched_by : (asked : Option Words) (shelf : Shelved) (input : Option (List ℕ)) (P : Reply → Type 0) (sink : Change) → ((r : Reply) → r.output ≡ [] → P r → GetsNothing sink)

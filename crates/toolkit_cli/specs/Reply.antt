@@ -3,6 +3,7 @@ use Rattle.std.specs.Prelude.{◌≡◌, ◌⊎◌, ℕ, Bool, false, List, [], 
 use Rattle.std.specs.Option.{ForSome}
 use Rattle.sled_model.specs.declared.spec.Spec.{Spec}
 use Rattle.sled_model.specs.declared.statement.Statement.{Statement}
+use Rattle.sled_elab.specs.Declarations.{Described}
 use Rattle.match_engine.specs.declared.listing.Stop.{Stop}
 use Rattle.match_engine.specs.declared.listing.Stop.TheVariants as stop
 use Rattle.match_engine.specs.Listing.{Listing, listing}
@@ -31,23 +32,27 @@ abbrev pub IsThere : Shelved → List ℕ → (List ℕ → Type 0) → Type 0
 IsThere shelf name P = (shelf.lacks name ≡ false) × ForSome (shelf.text name) P
 
 -- the text of SPEC makes this description
-abbrev pub MakesSpec : Words → Shelved → Spec → Type 0
-MakesSpec words shelf spec = IsThere shelf words.spec (λ t. IsDescribed t spec)
+abbrev pub MakesSpec : Words → Shelved → Described → Type 0
+MakesSpec words shelf d = IsThere shelf words.spec (λ t. IsDescribed t d)
 
 -- and that of MATCH makes this statement
-abbrev pub MakesStatement : Words → Shelved → Spec → Statement → Type 0
-MakesStatement words shelf spec statement = IsThere shelf words.matching (λ t. IsStated spec t statement)
+abbrev pub MakesStatement : Words → Shelved → Described → Statement → Type 0
+MakesStatement words shelf d statement = IsThere shelf words.matching (λ t. IsStated d t statement)
 
 -- SPEC is refused, or MATCH is refused over what SPEC makes
 abbrev pub RefusesText : Words → Shelved → List ℕ → Problem → Type 0
 RefusesText words shelf name p =
     ((name ≡ words.spec) × IsThere shelf words.spec (λ t. RefusesDescription t p))
-    ⊎ ((name ≡ words.matching) × ((spec : Spec) × MakesSpec words shelf spec × IsThere shelf words.matching (λ t. RefusesStatement spec t p)))
+    ⊎ ((name ≡ words.matching) × ((d : Described) × MakesSpec words shelf d × IsThere shelf words.matching (λ t. RefusesStatement d t p)))
+
+-- SPEC makes this description, and MATCH this statement over what its names stand for
+abbrev pub MakesBoth : Words → Shelved → Spec → Statement → Type 0
+MakesBoth words shelf spec statement = (d : Described) × (spec ≡ d.spec) × MakesSpec words shelf d × MakesStatement words shelf d statement
 
 abbrev pub SettlesDis : Words → Shelved → Settled → Type 0
 SettlesDis words shelf no_form = ⊥
 SettlesDis words shelf (refused_text name p) = RefusesText words shelf name p
-SettlesDis words shelf (accepted spec statement base) = (base ≡ words.base) × MakesSpec words shelf spec × MakesStatement words shelf spec statement
+SettlesDis words shelf (accepted spec statement base) = (base ≡ words.base) × MakesBoth words shelf spec statement
 
 -- what the words and the texts come to
 abbrev pub Settles : Option Words → Shelved → Settled → Type 0

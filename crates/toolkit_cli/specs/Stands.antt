@@ -4,8 +4,8 @@ use Rattle.std.specs.Option.{ForSome}
 use Rattle.std.specs.Io.KnownBytes.{Appends, Keeps}
 use Rattle.sled_base.specs.Causes.{Rose}
 use Rattle.sled_base.specs.Contents.{AppendsProperPrefix}
-use Rattle.sled_model.specs.declared.spec.Spec.{Spec}
 use Rattle.sled_model.specs.declared.statement.Statement.{Statement}
+use Rattle.sled_elab.specs.Declarations.{Described}
 use Rattle.toolkit_cli.specs.declared.messages.Problem.TheVariants as problem
 use Rattle.toolkit_cli.specs.declared.status.Status.{Status}
 use Rattle.toolkit_cli.specs.declared.status.Status.TheVariants.{Done, Refused, Usage, ReadFault, WriteFault, NoMemory}
@@ -46,11 +46,11 @@ GetsNothing s = Keeps s.old s.new
 
 -- SPEC is accepted
 abbrev pub AcceptsSpec : Words → Shelved → Type 0
-AcceptsSpec words shelf = (spec : Spec) × MakesSpec words shelf spec
+AcceptsSpec words shelf = (d : Described) × MakesSpec words shelf d
 
 -- SPEC and MATCH are accepted
 abbrev pub AcceptsTexts : Words → Shelved → Type 0
-AcceptsTexts words shelf = (spec : Spec) × (statement : Statement) × MakesSpec words shelf spec × MakesStatement words shelf spec statement
+AcceptsTexts words shelf = (d : Described) × (statement : Statement) × MakesSpec words shelf d × MakesStatement words shelf d statement
 
 -- words ask for texts, and both are accepted
 abbrev pub AcceptsByWords : Option Words → Shelved → Type 0

@@ -15,14 +15,14 @@ use Rattle.sled_parser.specs.Pieces.{Input, pieces}
 use Rattle.sled_parser.specs.Nesting.{nest_fault}
 use Rattle.sled_parser.specs.Declarations.{IsDescription}
 use Rattle.sled_parser.specs.Statements.{IsStatement}
-use Rattle.sled_model.specs.declared.spec.Spec.{Spec}
 use Rattle.sled_model.specs.declared.statement.Statement.{Statement}
 use Rattle.sled_elab.specs.declared.lack.Lack.{Lack}
 use Rattle.sled_elab.specs.declared.lack.Lack.TheVariants as lack
 use Rattle.sled_elab.specs.declared.lack.ElabFault.{ElabFault}
 use Rattle.sled_elab.specs.declared.lack.ElabFault.TheVariants as elab
 use Rattle.sled_elab.specs.Conditions.{description_lack, statement_lack}
-use Rattle.sled_elab.specs.Meaning.{spec_of, statement_of}
+use Rattle.sled_elab.specs.Declarations.{Described, described}
+use Rattle.sled_elab.specs.Statements.{statement_of}
 use Rattle.toolkit_cli.specs.declared.messages.Unit.{Unit as Part}
 use Rattle.toolkit_cli.specs.declared.messages.Unit.TheVariants as part
 use Rattle.toolkit_cli.specs.declared.messages.Problem.{Problem}
@@ -76,25 +76,31 @@ IsRefused IsTree lacks unit text _ = ⊥
 
 -- ---- descriptions
 
-pub record IsDescribed (text : List ℕ) (spec : Spec) : Type 0 where
+-- the text is a description that lacks nothing, and this is what it makes
+pub record IsDescribed (text : List ℕ) (d : Described) : Type 0 where
   pub tree : List Decl
   pub parsed : IsParsed IsDescription text tree
   pub met : description_lack tree ≡ None
-  pub same : spec ≡ spec_of tree
+  pub same : d ≡ described tree
 
 abbrev pub RefusesDescription : List ℕ → Problem → Type 0
 RefusesDescription text p = IsRefused IsDescription description_lack part.Declaration text p
 
 -- ---- statements over a description
 
-pub record IsStated (spec : Spec) (text : List ℕ) (statement : Statement) : Type 0 where
+-- the first arm that lacks something over the description, and what it lacks
+abbrev pub lack_over : Described → MatchTree → Option (ℕ × Lack)
+lack_over d tree = statement_lack d.spec d.declared tree
+
+-- the text is a statement that lacks nothing, and this is what it makes
+pub record IsStated (d : Described) (text : List ℕ) (statement : Statement) : Type 0 where
   pub tree : MatchTree
   pub parsed : IsParsed IsStatement text tree
-  pub met : statement_lack spec tree ≡ None
-  pub same : statement ≡ statement_of spec tree
+  pub met : lack_over d tree ≡ None
+  pub same : statement ≡ statement_of d.declared tree
 
-abbrev pub RefusesStatement : Spec → List ℕ → Problem → Type 0
-RefusesStatement spec text p = IsRefused IsStatement (statement_lack spec) part.Arm text p
+abbrev pub RefusesStatement : Described → List ℕ → Problem → Type 0
+RefusesStatement d text p = IsRefused IsStatement (lack_over d) part.Arm text p
 
 -- ---- what stops a text
 

@@ -3,7 +3,7 @@ ghost use Rattle.std.specs.Prelude.{◌≡◌, ◌⊎◌, ◌≢◌, ◌≤◌, 
 ghost use Rattle.std.specs.Option.{ForSome};
 ghost use Rattle.std.specs.Io.KnownBytes.{IsAtEnd, Keeps};
 ghost use Rattle.sled_base.specs.Causes.{Rose};
-ghost use Rattle.sled_model.specs.OneToken.{IsOneTokenStatement};
+ghost use Rattle.sled_model.specs.PlainStatements.{IsPlainStatement};
 ghost use Rattle.toolkit_cli.specs.CommandWords.{command_words};
 ghost use Rattle.toolkit_cli.specs.Words.{words_of};
 ghost use Rattle.toolkit_cli.specs.Reply.{Settled, Settles, SettlesDis, TellsTexts, accepted, reply};
@@ -11,7 +11,7 @@ ghost use Rattle.toolkit_cli.specs.Stands.{AcceptsByWords, AcceptsTexts, Stands,
 
 use crate::messages::Problem;
 use crate::status::Status;
-use crate::texts::{TextStop, read_spec, read_statement, say, tell};
+use crate::texts::{TextStop, described, read_decls, read_statement, say, tell};
 use crate::words::{Command, command_of};
 use match_engine::{ListFault, list};
 use sled_base::{Shelf, Sink, Source};
@@ -137,15 +137,20 @@ fn dis<H: Shelf, I: Source, O: Sink, E: Sink>(
     ensures texts { (any : List ℕ) → H.text shelf.new any ≡ H.text shelf.old any }
     ensures absent { (any : List ℕ) → H.lacks shelf.new any ≡ H.lacks shelf.old any }
 {
-    let spec = match read_spec(alloc, shelf, command.spec) {
-        Ok(spec) => spec,
+    let decls = match read_decls(alloc, shelf, command.spec) {
+        Ok(decls) => decls,
         Err(stop) => return stopped(alloc, command.spec, stop, notes),
     };
-    let statement = match read_statement(alloc, shelf, &spec, command.matching) {
+    let description = match described(alloc, decls.as_slice()) {
+        Ok(description) => description,
+        Err(stop) => return stopped(alloc, command.spec, stop, notes),
+    };
+    let statement = match read_statement(alloc, shelf, &description, command.matching) {
         Ok(statement) => statement,
         Err(stop) => return stopped(alloc, command.matching, stop, notes),
     };
-    listed(alloc, &spec, &statement, command.base, input, out, notes)
+    let (spec, base) = (&description.spec, command.base);
+    listed(alloc, spec, &statement, base, input, out, notes)
 }
 
 // What goes to the notes where a text does not serve.
@@ -178,7 +183,7 @@ fn listed<I: Source, O: Sink, E: Sink>(
     out: &mut O,
     notes: &mut E,
 ) -> Status
-    requires { IsOneTokenStatement spec.now statement.now }
+    requires { IsPlainStatement spec.now statement.now }
     ensures stands { Stands (λ s. s ≡ accepted spec.now statement.now base) (I.left input.old)
         (InputUnread (Rose (I.faults input.old) (I.faults input.new)))
         (record { old = O.contents out.old; new = O.contents out.new; count = O.faults out.old; new_count = O.faults out.new })

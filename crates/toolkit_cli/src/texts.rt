@@ -1,9 +1,10 @@
 // Texts that are read, and what goes to the notes.
-ghost use Rattle.std.specs.Prelude.{◌≡◌, ◌≢◌, ◌≤◌, ℕ, List, false, length, IfOk, IfErr, IsErrOf};
+ghost use Rattle.std.specs.Prelude.{◌≡◌, ◌≢◌, ◌≤◌, ℕ, List, All, false, length, IfOk, IfErr, IsErrOf};
 ghost use Rattle.std.specs.Option.{ForSome};
 ghost use Rattle.sled_base.specs.Causes.{Rose};
-ghost use Rattle.sled_model.specs.OneToken.{IsOneTokenStatement};
-ghost use Rattle.sled_elab.specs.Built.{IsBuiltSpec};
+ghost use Rattle.sled_model.specs.PlainStatements.{IsPlainStatement};
+ghost use Rattle.sled_elab.specs.Descriptions.{described_in, HasNumbersInRange, IsSound};
+ghost use Rattle.sled_parser.specs.Declarations.{IsDescription};
 ghost use Rattle.toolkit_cli.specs.Messages.{message as message_of};
 ghost use Rattle.toolkit_cli.specs.Texts as of;
 ghost use Rattle.toolkit_cli.specs.Told.{Told};
@@ -11,9 +12,10 @@ ghost use Rattle.toolkit_cli.specs.Told.{Told};
 use crate::messages::{Problem, Unit, message};
 use crate::status::Status;
 use sled_base::{MAX_TEXT, Shelf, Sink, TextFault, load_text, write_all};
-use sled_elab::{ElabFault, Lack, elaborate, elaborate_match};
+use sled_elab::{Description, ElabFault, Lack, describe, elaborate_match};
 use sled_lexer::{LexFault, lex};
-use sled_model::{Spec, Statement};
+use sled_model::Statement;
+use sled_parser::tree::Decl;
 use sled_parser::{SyntaxFault, parse_match, parse_spec};
 use std::alloc::Global;
 
@@ -25,10 +27,10 @@ pub enum TextStop {
     NoMemory,
 }
 
-/// The description that the text of a name makes.
-pub fn read_spec<H: Shelf>(alloc: Global, shelf: &mut H, name: &str) -> Result<Spec, TextStop>
-    ensures made { IfOk result (λ spec. ForSome (H.text shelf.old name.now) (λ t. of.IsDescribed t spec)) }
-    ensures built { IfOk result IsBuiltSpec }
+/// The declarations that the text of a name spells.
+pub fn read_decls<H: Shelf>(alloc: Global, shelf: &mut H, name: &str) -> Result<Vec<Decl>, TextStop>
+    ensures made { IfOk result (λ decls. ForSome (H.text shelf.old name.now) (λ t. of.IsParsed IsDescription t decls.items)) }
+    ensures numbers { IfOk result (λ decls. All HasNumbersInRange decls.items) }
     ensures refused { IfErr result (λ stop. ForSome (H.text shelf.old name.now) (λ t. of.Stops of.RefusesDescription t stop)) }
     ensures there { IfOk result (λ _. H.lacks shelf.old name.now ≡ false) }
     ensures stops { IfErr result (of.StopsThere (H.lacks shelf.old name.now)) }
@@ -39,8 +41,22 @@ pub fn read_spec<H: Shelf>(alloc: Global, shelf: &mut H, name: &str) -> Result<S
     ensures absent { (any : List ℕ) → H.lacks shelf.new any ≡ H.lacks shelf.old any }
 {
     match load_text(alloc, shelf, name) {
-        Ok(text) => described(alloc, &text),
+        Ok(text) => parsed(alloc, &text),
         Err(fault) => Err(not_loaded(fault)),
+    }
+}
+
+/// The description that declarations make: that of each text that spells them, or why each such text is refused.
+pub fn described<'a>(alloc: Global, decls: &'a [Decl]) -> Result<Description<'a>, TextStop>
+    requires { All HasNumbersInRange decls.now }
+    ensures made { IfOk result (λ d. (t : List ℕ) → of.IsParsed IsDescription t decls.now → of.IsDescribed t (described_in d)) }
+    ensures sound { IfOk result (λ d. IsSound (described_in d)) }
+    ensures refused { IfErr result (λ stop. (t : List ℕ) → of.IsParsed IsDescription t decls.now → of.Stops of.RefusesDescription t stop) }
+    ensures loaded { IfErr result (λ stop. stop ≢ TextStop.Unread) }
+{
+    match describe(alloc, decls) {
+        Ok(description) => Ok(description),
+        Err(fault) => Err(not_elaborated(Unit::Declaration, fault)),
     }
 }
 
@@ -48,13 +64,13 @@ pub fn read_spec<H: Shelf>(alloc: Global, shelf: &mut H, name: &str) -> Result<S
 pub fn read_statement<H: Shelf>(
     alloc: Global,
     shelf: &mut H,
-    spec: &Spec,
+    description: &Description<'_>,
     name: &str,
 ) -> Result<Statement, TextStop>
-    requires { IsBuiltSpec spec.now }
-    ensures made { IfOk result (λ statement. ForSome (H.text shelf.old name.now) (λ t. of.IsStated spec.now t statement)) }
-    ensures built { IfOk result (IsOneTokenStatement spec.now) }
-    ensures refused { IfErr result (λ stop. ForSome (H.text shelf.old name.now) (λ t. of.Stops (of.RefusesStatement spec.now) t stop)) }
+    requires { IsSound (described_in description.now) }
+    ensures made { IfOk result (λ statement. ForSome (H.text shelf.old name.now) (λ t. of.IsStated (described_in description.now) t statement)) }
+    ensures plain { IfOk result (IsPlainStatement description.now.spec) }
+    ensures refused { IfErr result (λ stop. ForSome (H.text shelf.old name.now) (λ t. of.Stops (of.RefusesStatement (described_in description.now)) t stop)) }
     ensures there { IfOk result (λ _. H.lacks shelf.old name.now ≡ false) }
     ensures stops { IfErr result (of.StopsThere (H.lacks shelf.old name.now)) }
     ensures unread { IsErrOf result TextStop.Unread → Rose (H.faults shelf.old name.now) (H.faults shelf.new name.now) }
@@ -64,15 +80,15 @@ pub fn read_statement<H: Shelf>(
     ensures absent { (any : List ℕ) → H.lacks shelf.new any ≡ H.lacks shelf.old any }
 {
     match load_text(alloc, shelf, name) {
-        Ok(text) => stated(alloc, spec, &text),
+        Ok(text) => stated(alloc, description, &text),
         Err(fault) => Err(not_loaded(fault)),
     }
 }
 
-fn described(alloc: Global, text: &[u8]) -> Result<Spec, TextStop>
+fn parsed(alloc: Global, text: &[u8]) -> Result<Vec<Decl>, TextStop>
     requires { length text.now ≤ MAX_TEXT }
-    ensures made { IfOk result (of.IsDescribed text.now) }
-    ensures built { IfOk result IsBuiltSpec }
+    ensures made { IfOk result (λ decls. of.IsParsed IsDescription text.now decls.items) }
+    ensures numbers { IfOk result (λ decls. All HasNumbersInRange decls.items) }
     ensures refused { IfErr result (of.Stops of.RefusesDescription text.now) }
     ensures loaded { IfErr result (λ stop. stop ≢ TextStop.Unread) }
 {
@@ -80,22 +96,18 @@ fn described(alloc: Global, text: &[u8]) -> Result<Spec, TextStop>
         Ok(lexemes) => lexemes,
         Err(fault) => return Err(not_lexed(fault)),
     };
-    let decls = match parse_spec(alloc, text, lexemes.as_slice()) {
-        Ok(decls) => decls,
-        Err(fault) => return Err(not_parsed(fault)),
-    };
-    match elaborate(alloc, decls.as_slice()) {
-        Ok(spec) => Ok(spec),
-        Err(fault) => Err(not_elaborated(Unit::Declaration, fault)),
+    match parse_spec(alloc, text, lexemes.as_slice()) {
+        Ok(decls) => Ok(decls),
+        Err(fault) => Err(not_parsed(fault)),
     }
 }
 
-fn stated(alloc: Global, spec: &Spec, text: &[u8]) -> Result<Statement, TextStop>
+fn stated(alloc: Global, description: &Description<'_>, text: &[u8]) -> Result<Statement, TextStop>
     requires short { length text.now ≤ MAX_TEXT }
-    requires built { IsBuiltSpec spec.now }
-    ensures made { IfOk result (of.IsStated spec.now text.now) }
-    ensures built { IfOk result (IsOneTokenStatement spec.now) }
-    ensures refused { IfErr result (of.Stops (of.RefusesStatement spec.now) text.now) }
+    requires sound { IsSound (described_in description.now) }
+    ensures made { IfOk result (of.IsStated (described_in description.now) text.now) }
+    ensures plain { IfOk result (IsPlainStatement description.now.spec) }
+    ensures refused { IfErr result (of.Stops (of.RefusesStatement (described_in description.now)) text.now) }
     ensures loaded { IfErr result (λ stop. stop ≢ TextStop.Unread) }
 {
     let lexemes = match lex(alloc, text) {
@@ -106,7 +118,7 @@ fn stated(alloc: Global, spec: &Spec, text: &[u8]) -> Result<Statement, TextStop
         Ok(tree) => tree,
         Err(fault) => return Err(not_parsed(fault)),
     };
-    match elaborate_match(alloc, spec, &tree) {
+    match elaborate_match(alloc, &description.spec, &description.scope, &tree) {
         Ok(statement) => Ok(statement),
         Err(fault) => Err(not_elaborated(Unit::Arm, fault)),
     }

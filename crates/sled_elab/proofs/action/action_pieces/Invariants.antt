@@ -1,6 +1,6 @@
 use Rattle.std.proofs.Common.{◌≡◌, [], length}
 use Rattle.sled_elab.specs.Actions.{behind, outside}
-use Rattle.sled_elab.specs.NameTables.{table_names}
+use Rattle.tree_meaning.specs.NameTables.{table_names}
 use Rattle.sled_elab.proofs.action.action_pieces.Given as goal
 
 abbrev pub decreases-text : goal.decreases-text

@@ -1,6 +1,6 @@
 use Rattle.std.proofs.Common.{◌≡◌, ℕ, List, [], Some, take, drop, ◌+◌, length, sym, ap, ◌∙◌, arith}
-use Rattle.sled_elab.specs.NameTables.{table_names}
-use Rattle.sled_elab.specs.Names.{position_of}
+use Rattle.tree_meaning.specs.NameTables.{table_names}
+use Rattle.tree_meaning.specs.Names.{position_of}
 use Rattle.sled_elab.specs.Actions.{outside, bound_piece}
 use Rattle.std.specs.Prelude.{Option}
 use Rattle.sled_elab.proofs.ActionLemmas.{inside_end, inside_close, named_step}

@@ -1,7 +1,7 @@
 use Rattle.std.proofs.Common.{◌≡◌, ℕ, List, [], Some, take, ◌+◌, ◌++◌, length, sym, ap, ◌∙◌, arith}
 use Rattle.std.proofs.lemmas.Result.{IfOk-weaker}
 use Rattle.std.proofs.lemmas.List.{length-drop}
-use Rattle.sled_elab.specs.NameTables.{table_names}
+use Rattle.tree_meaning.specs.NameTables.{table_names}
 use Rattle.sled_elab.specs.Actions.{outside, inside, behind, words_piece}
 use Rattle.sled_elab.proofs.ActionLemmas.{outside_end, outside_wrong, outside_open, Steps-open}
 use Rattle.sled_elab.proofs.action.take_step.Goals as goal

@@ -1,0 +1,14 @@
+pub mod SkeletonLaws
+pub mod Measured
+pub mod Alone
+pub mod Rows
+pub mod Shown
+pub mod Ends
+pub mod Pairs
+pub mod Standing
+pub mod Reaching
+pub mod Relations
+pub mod Patterns
+pub mod Told
+pub mod Worked
+pub mod Weightless

@@ -1,0 +1,4 @@
+pub mod Alone
+pub mod Skeletons
+pub mod Alternatives
+pub mod Cases

@@ -1,0 +1,128 @@
+// Cases of a worked pattern, its weight and its size.
+ghost use Rattle.std.specs.Prelude.{◌≡◌, [], ◌∷◌, IfOk};
+ghost use Rattle.token_bits.specs.Tokens.{AreTokens, token_len};
+ghost use Rattle.sled_model.specs.declared.pattern.Relation.TheVariants.{Equal, Below};
+
+use crate::{cases_of, size, weight};
+use sled_base::NoMemory;
+use sled_model::{Pattern, RawEntry, Relation, Spec};
+use sqlite_items::{Boxed, Items};
+use std::alloc::Global;
+use std::test::Fail;
+use token_bits::{Class, Field, FieldId, Order, Tokens};
+
+/// Fields 0, the low half, and 1, the high half, of a class of 8 bits.
+fn spec(alloc: Global) -> Result<Spec, NoMemory>
+    ensures sound { IfOk result (λ spec. AreTokens spec.tokens) }
+    ensures low { IfOk result (λ spec. token_len spec.tokens (record { 0 = 0 }) ≡ 1) }
+    ensures high { IfOk result (λ spec. token_len spec.tokens (record { 0 = 1 }) ≡ 1) }
+{
+    let mut tokens = Tokens::new(alloc);
+    let class = tokens.add_class(Class {
+        width: 8,
+        order: Order::Little,
+    })?;
+    tokens.add_field(Field {
+        class,
+        lo: 0,
+        hi: 3,
+    })?;
+    tokens.add_field(Field {
+        class,
+        lo: 4,
+        hi: 7,
+    })?;
+    Ok(Spec {
+        tokens,
+        class_names: Items::new(alloc),
+        field_names: Items::new(alloc),
+        constructors: Items::new(alloc),
+    })
+}
+
+fn low(relation: Relation, value: u32) -> Pattern
+    ensures { result ≡ Pattern.Limit (record { 0 = 0 }) relation value }
+{
+    Pattern::Limit {
+        field: FieldId(0),
+        relation,
+        value,
+    }
+}
+
+fn two(alloc: Global, first: Pattern, second: Pattern) -> Result<Items<Pattern>, NoMemory>
+    ensures { IfOk result (λ parts. parts ≡ first ∷ second ∷ []) }
+{
+    let mut parts = Items::new(alloc);
+    parts.push(first)?;
+    parts.push(second)?;
+    Ok(parts)
+}
+
+/// `here: (low < 5 & high) ; (low = 1 | low)`
+fn pattern(alloc: Global) -> Result<Pattern, NoMemory>
+    ensures { IfOk result (λ p. p ≡ Pattern.Chain (Pattern.Label 7 (Pattern.Both (Pattern.Limit (record { 0 = 0 }) Below 5 ∷ Pattern.Bind (record { 0 = 1 }) ∷ []))
+        ∷ Pattern.Either (Pattern.Limit (record { 0 = 0 }) Equal 1 ∷ Pattern.Bind (record { 0 = 0 }) ∷ []) ∷ [])) }
+{
+    let both = two(alloc, low(Relation::Below, 5), Pattern::Bind(FieldId(1)))?;
+    let either = two(alloc, low(Relation::Equal, 1), Pattern::Bind(FieldId(0)))?;
+    let labelled = Pattern::Label(7, Boxed::new(alloc, Pattern::Both(both))?);
+    Ok(Pattern::Chain(two(alloc, labelled, Pattern::Either(either))?))
+}
+
+/// A number for each entry: what it is, its value and its offset, each a decimal digit.
+fn numbers(alloc: Global, entries: &[RawEntry]) -> Result<Vec<u64>, NoMemory> {
+    let mut numbers = Vec::new(alloc);
+    for entry in entries {
+        let number = match entry {
+            RawEntry::Value { field, value, at } => {
+                100 * u64::from(field.0) + 10 * u64::from(*value) + u64::from(*at)
+            }
+            RawEntry::Mark { label, at } => 100 * u64::from(*label) + u64::from(*at),
+            RawEntry::Choice { .. } => 1000,
+        };
+        numbers.push(number)?;
+    }
+    Ok(numbers)
+}
+
+/// The length and the entries of each result that the cases give on the window.
+fn told(alloc: Global, window: &[u8]) -> Result<Vec<(u8, Vec<u64>)>, NoMemory> {
+    let spec = spec(alloc)?;
+    let pattern = pattern(alloc)?;
+    let cases = cases_of(alloc, &spec, &pattern)?;
+    let mut told = Vec::new(alloc);
+    for case in cases.as_slice() {
+        if case.bits.meets(window) {
+            let raw = case.bind.read(alloc, &spec, window)?;
+            told.push((case.bits.len, numbers(alloc, raw.entries.as_slice())?))?;
+        }
+    }
+    Ok(told)
+}
+
+#[test]
+fn results_in_order(rt: HostRuntime) -> Result<(), Fail> {
+    let both = told(rt.alloc(), &[0x24, 0x31, 0xFF])?;
+    assert_eq!(rt; both.len(), 2);
+    assert_eq!(rt; both[0].0, 2);
+    assert_eq!(rt; both[0].1.as_slice(), [700, 120].as_slice());
+    assert_eq!(rt; both[1].1.as_slice(), [700, 120, 11].as_slice());
+    let one = told(rt.alloc(), &[0x93, 0x08])?;
+    assert_eq!(rt; one.len(), 1);
+    assert_eq!(rt; one[0].1.as_slice(), [700, 190, 81].as_slice());
+    assert_eq!(rt; told(rt.alloc(), &[0x25, 0x31])?.len(), 0);
+    assert_eq!(rt; told(rt.alloc(), &[0x24])?.len(), 0);
+    Ok(())
+}
+
+#[test]
+fn weight_and_size(rt: HostRuntime) -> Result<(), Fail> {
+    let spec = spec(rt.alloc())?;
+    let pattern = pattern(rt.alloc())?;
+    assert_eq!(rt; weight(&spec, &pattern), 4);
+    assert_eq!(rt; size(&spec, &pattern), 3);
+    assert_eq!(rt; weight(&spec, &low(Relation::Differs, 3)), 4);
+    assert_eq!(rt; cases_of(rt.alloc(), &spec, &pattern)?.len(), 4);
+    Ok(())
+}

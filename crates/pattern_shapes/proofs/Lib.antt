@@ -1,0 +1,4 @@
+pub mod CompareLemmas
+pub mod Joined
+pub mod Steps
+pub mod FormLemmas

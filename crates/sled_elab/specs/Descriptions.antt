@@ -1,0 +1,41 @@
+-- What holds of a description that lacks nothing so far.
+use Rattle.std.specs.Prelude.{◌≡◌, true, [], length, All}
+use Rattle.sled_parser.specs.declared.tree.Decl.{Decl}
+use Rattle.sled_parser.specs.declared.tree.Decl.TheVariants as decl
+use Rattle.sled_parser.specs.declared.tree.ArmTree.{ArmTree}
+use Rattle.sled_parser.specs.declared.tree.ArmsTree.{ArmsTree}
+use Rattle.sled_parser.specs.declared.tree.ArmsTree.TheVariants as arms
+use Rattle.sled_model.specs.Specs.{IsSpec, names_of}
+use Rattle.tree_meaning.specs.Names.{is_among, are_distinct}
+use Rattle.tree_meaning.specs.Scopes.{declared_in}
+use Rattle.tree_meaning.specs.Sound.{IsSoundMeaning}
+use Rattle.tree_meaning.specs.Patterns.{has_all_in_range}
+use Rattle.sled_elab.specs.declared.description.Description.{Description}
+use Rattle.sled_elab.specs.Declarations.{Described}
+
+-- what a description and its scope hold
+abbrev pub described_in : Description → Described
+described_in d = record { spec = d.spec; declared = declared_in d.scope }
+
+-- the description is one that the language admits, without constructors; its names are among those that were declared, each once, and
+-- each name stands for something of it
+pub record IsSound (d : Described) : Type 0 where
+  pub spec : IsSpec d.spec
+  pub plain : d.spec.constructors ≡ []
+  pub meanings : length d.declared.meanings ≡ length d.declared.names
+  pub distinct : are_distinct d.declared.names ≡ true
+  pub within : All (λ n. is_among d.declared.names n ≡ true) (names_of d.spec)
+  pub sound : All (IsSoundMeaning d.spec.tokens) d.declared.meanings
+
+-- each Number of a declaration's pattern is at most 4,294,967,295, as each in a text is
+abbrev pub HasNumbersInRange : Decl → Type 0
+HasNumbersInRange (decl.Definition name items tree) = has_all_in_range tree ≡ true
+HasNumbersInRange _ = Unit {0}
+
+-- the same of arms
+abbrev pub HasArmInRange : ArmTree → Type 0
+HasArmInRange arm = has_all_in_range arm.pattern ≡ true
+
+abbrev pub HaveArmsInRange : ArmsTree → Type 0
+HaveArmsInRange arms.All = Unit {0}
+HaveArmsInRange (arms.Listed as_they_stand) = All HasArmInRange as_they_stand

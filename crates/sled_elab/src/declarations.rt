@@ -1,0 +1,109 @@
+// What declarations make, one after another.
+ghost use Rattle.std.specs.Prelude.{◌≡◌, ◌<◌, ◌^◌, All, None, IfOk, IfErr};
+ghost use Rattle.sled_elab.specs.Declarations.{described, spec_of, after};
+ghost use Rattle.sled_elab.specs.Conditions.{decl_lack, description_lack, next_number as next_number_of};
+ghost use Rattle.sled_elab.specs.Descriptions.{described_in, HasNumbersInRange, IsSound};
+ghost use Rattle.sled_elab.specs.Refusals.{IsRefusedAt};
+ghost use Rattle.tree_meaning.specs.Scopes.{declared_in};
+
+use crate::class::declare_class;
+use crate::definition::declare_definition;
+use crate::description::Description;
+use crate::lack::{ElabFault, Lack};
+use sled_base::NoMemory;
+use sled_model::Spec;
+use sled_parser::tree::Decl;
+use std::alloc::Global;
+use tree_meaning::Scope;
+
+/// The description that the declarations make, with what its names stand for, or the first declaration that lacks something. Each
+/// Number in the trees is at most 4,294,967,295.
+pub fn describe<'a>(alloc: Global, decls: &'a [Decl]) -> Result<Description<'a>, ElabFault>
+    requires { All HasNumbersInRange decls.now }
+    ensures made { IfOk result (λ d. described_in d ≡ described decls.now) }
+    ensures sound { IfOk result (λ d. IsSound (described_in d)) }
+    ensures met { IfOk result (λ _. description_lack decls.now ≡ None) }
+    ensures refused { IfErr result (λ fault. IsRefusedAt fault (description_lack decls.now)) }
+{
+    let mut description = Description::new(alloc);
+    let mut number = 1;
+    for decl in decls {
+        if let Some(lack) = declare(alloc, &mut description, decl)? {
+            return Err(ElabFault::Lacks { number, lack });
+        }
+        number = next_number(number, decl);
+    }
+    Ok(description)
+}
+
+/// The description that the declarations make, or the first of them that lacks something: as `describe`.
+pub fn elaborate(alloc: Global, decls: &[Decl]) -> Result<Spec, ElabFault>
+    requires { All HasNumbersInRange decls.now }
+    ensures made { IfOk result (λ spec. spec ≡ spec_of decls.now) }
+    ensures met { IfOk result (λ _. description_lack decls.now ≡ None) }
+    ensures refused { IfErr result (λ fault. IsRefusedAt fault (description_lack decls.now)) }
+{
+    let Description { spec, .. } = describe(alloc, decls)?;
+    Ok(spec)
+}
+
+/// What the names of declarations stand for that lack nothing: `spec` is what `elaborate` answers on them.
+pub fn scope_of<'a>(alloc: Global, decls: &'a [Decl], spec: &Spec) -> Result<Scope<'a>, NoMemory>
+    requires numbers { All HasNumbersInRange decls.now }
+    requires met { description_lack decls.now ≡ None }
+    requires same { spec.now ≡ spec_of decls.now }
+    ensures made { IfOk result (λ scope. declared_in scope ≡ (described decls.now).declared) }
+    ensures sound { IfOk result (λ scope. IsSound (record { spec = spec.now; declared = declared_in scope })) }
+{
+    match describe(alloc, decls) {
+        Ok(Description { scope, .. }) => Ok(scope),
+        Err(_) => Err(NoMemory),
+    }
+}
+
+// A heading has no number.
+fn next_number(number: u64, decl: &Decl) -> u64
+    requires { number < 2 ^ 63 }
+    ensures { result ≡ next_number_of number decl.now }
+{
+    match decl {
+        Decl::Heading(_) => number,
+        _ => number + 1,
+    }
+}
+
+// Adds what the declaration declares, or answers what it lacks.
+fn declare<'a>(
+    alloc: Global,
+    description: &mut Description<'a>,
+    decl: &'a Decl,
+) -> Result<Option<Lack>, NoMemory>
+    requires sound { IsSound (described_in description.old) }
+    requires numbers { HasNumbersInRange decl.now }
+    ensures lack { IfOk result (λ lack. lack ≡ decl_lack (described_in description.old) decl.now) }
+    ensures made { IfOk result (λ lack. lack ≡ None → described_in description.new ≡ after (described_in description.old) decl.now) }
+    ensures sound { IfOk result (λ lack. lack ≡ None → IsSound (described_in description.new)) }
+{
+    match decl {
+        Decl::Heading(_) => Ok(None),
+        Decl::Class {
+            name,
+            width,
+            little,
+            fields,
+        } => declare_class(
+            alloc,
+            description,
+            name.as_slice(),
+            width.as_slice(),
+            *little,
+            fields.as_slice(),
+        ),
+        Decl::Definition {
+            name,
+            items,
+            pattern,
+        } => declare_definition(alloc, description, name.as_slice(), items, pattern),
+        Decl::ConstructorDecl { .. } => Ok(Some(Lack::NotBuilt)),
+    }
+}

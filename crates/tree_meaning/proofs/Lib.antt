@@ -1,0 +1,11 @@
+pub mod NamesLemmas
+pub mod PartLaws
+pub mod Merging
+pub mod ValueLemmas
+pub mod ListLemmas
+pub mod BindingsLemmas
+pub mod TreeLaws
+pub mod ChoiceLemmas
+pub mod PartLemmas
+pub mod CountLemmas
+pub mod Soundness

@@ -1,0 +1,9 @@
+pub mod Names
+pub mod NameTables
+pub mod Scopes
+pub mod Values
+pub mod Parts
+pub mod Bindings
+pub mod Patterns
+pub mod Sound
+pub mod Bound
