@@ -18,7 +18,7 @@ repeat a 524288 ' ' >one_letter_words
 { printf 'match case '; repeat 'v = 1 ' 100000 '&'; printf ' => "x"'; } >conjunction
 { printf 'match case '; repeat 'op ' 200000 '|'; printf ' => "x"'; } >alternatives
 { cat spec; awk 'BEGIN { for (i = 0; i < 40000; i++) printf "fields of c%d (32)\n", i }'; } >declarations
-{ cat spec; awk 'BEGIN { print "patterns"; for (i = 0; i < 40000; i++) printf "p%d is op = %d & v < %d\n", i, i % 256, i }'; } >definitions
+{ cat spec; awk 'BEGIN { print "patterns"; for (i = 0; i < 34000; i++) printf "p%d is op = %d & v < %d\n", i, i % 256, i }'; } >definitions
 { cat spec; awk 'BEGIN { printf "patterns g ["; for (i = 0; i < 65536; i++) printf " m%d", i; print " ] is op = {0 to 255} & v = {0 to 255}" }'; } >group
 { printf 'fields of b (8) x 0:7\n'; } >byte
 { printf 'match case x != 0 ; x != 0 ; x != 0 ; x != 0 => "x"\n'; } >wide_arm
