@@ -154,7 +154,6 @@ module _ (width split : ℕ) (is_width : IsWidth width) (some : 0 < split) (with
       let P = IsPlainArm (op_and_v width split) in
       record {
         tokens = sound;
-        plain = refl;
         arms = All-cons P load (stop ∷ next ∷ []) load_plain (All-cons P stop (next ∷ []) stop_plain (All-cons P next [] next_plain (All-nil P)));
         skip = h;
       }

@@ -18,7 +18,9 @@ op_and_v width split = record {
   };
   class_names = [];
   field_names = codes "op" ∷ codes "v" ∷ [];
+  type_names = [];
   constructors = [];
+  constructor_names = [];
 }
 
 abbrev pub op_is : ℕ → Pattern

@@ -5,7 +5,7 @@ ghost use Rattle.match_engine.specs.Example.{op_and_v, op_is as op_term, load as
 
 use crate::{ListFault, Listed, compile, list};
 use sled_base::{MemSink, MemSource, NoMemory};
-use sled_model::{Arm, Name, Pattern, Piece, Relation, Spec, Statement};
+use sled_model::{Arm, ConstructorNames, Name, Pattern, Piece, Relation, Spec, Statement};
 use sqlite_items::{Boxed, Items};
 use std::alloc::Global;
 use std::test::Fail;
@@ -40,7 +40,9 @@ fn description(alloc: Global, width: u8, split: u8) -> Result<Spec, NoMemory>
         tokens: Tokens { classes, fields },
         class_names: Items::new(alloc),
         field_names,
+        type_names: Items::new(alloc),
         constructors: Items::new(alloc),
+        constructor_names: ConstructorNames::new(alloc),
     })
 }
 

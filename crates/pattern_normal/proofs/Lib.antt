@@ -1,5 +1,6 @@
 pub mod SkeletonLaws
 pub mod Measured
+pub mod Nodes
 pub mod Alone
 pub mod Rows
 pub mod Shown

@@ -5,10 +5,10 @@ use Rattle.token_bits.specs.declared.tokens.FieldId.{FieldId}
 use Rattle.token_bits.specs.Tokens.{token_len}
 use Rattle.sled_model.specs.declared.spec.Spec.{Spec}
 use Rattle.sled_model.specs.declared.pattern.Pattern.{Pattern}
-use Rattle.sled_model.specs.declared.pattern.Pattern.TheVariants.{Limit, Bind, Both, Either, Chain, Label}
+use Rattle.sled_model.specs.declared.pattern.Pattern.TheVariants.{Limit, Bind, Operand, Both, Either, Chain, Label}
 use Rattle.sled_model.specs.declared.pattern.Relation.TheVariants.{Equal, Below}
 use Rattle.sled_model.specs.Measures.{longest, each_from, measured, pattern_len}
-use Rattle.sled_model.specs.Leaves.{AllLeaves, NamesNoConstructor}
+use Rattle.sled_model.specs.Leaves.{IsNoApplication, AllLeaves, NamesNoConstructor}
 use Rattle.sled_model.proofs.MeasureLaws as law
 
 abbrev low : FieldId
@@ -41,3 +41,8 @@ fits spec p e l h =
     let first : longest T K O (Label 7 (Both both_parts)) ≡ max (max 0 (token_len T low)) (token_len T high) = law.longest-Label T K O 7 (Both both_parts) ∙ law.longest-Both T K O both_parts in
     let second : longest T K O (Either either_parts) ≡ max (max 0 (token_len T low)) (token_len T low) = law.longest-Either T K O either_parts in
     subst (λ z. pattern_len spec z ≤ 32) (sym e) (omega (arith, whole, first, second, l, h))
+
+pub body_plain : (p : Pattern) → p ≡ Chain (Limit low Below 7 ∷ Operand 0 ∷ []) → AllLeaves IsNoApplication p
+body_plain p e =
+    let P = AllLeaves IsNoApplication in let rest = Operand 0 ∷ [] in
+    subst P (sym e) (law.AllLeaves-to_Chain IsNoApplication (Limit low Below 7 ∷ rest) (All-cons P (Limit low Below 7) rest tt (All-cons P (Operand 0) [] tt (All-nil P))))

@@ -12,7 +12,7 @@ use crate::alternative::Alternative;
 use crate::expand::expand;
 use crate::skeleton::copy_spots;
 use bit_cases::ByteCase;
-use sled_base::NoMemory;
+use sled_base::{MAX_MATCH, NoMemory};
 use sled_model::{Pattern, Spec};
 use sqlite_items::Items;
 use std::alloc::Global;
@@ -33,7 +33,7 @@ pub type CaseList = Items<Case>;
 pub fn cases_of(alloc: Global, spec: &Spec, pattern: &Pattern) -> Result<CaseList, NoMemory>
     requires tokens { AreTokens spec.now.tokens }
     requires plain { AllLeaves NamesNoConstructor pattern.now }
-    requires fits { pattern_len spec.now pattern.now ≤ 32 }
+    requires fits { pattern_len spec.now pattern.now ≤ MAX_MATCH }
     ensures results { IfOk result (λ cases. (window : List ℕ) → IsBytes window
         → told_by_met spec.now.tokens window cases ≡ map binds_and_len (results (arm_context spec.now) pattern.now window 0)) }
     ensures lens { IfOk result (All (λ case. case.bits.len ≤ pattern_len spec.now pattern.now)) }

@@ -9,8 +9,8 @@ ghost use Rattle.pattern_normal.specs.Alternatives.{StandFor, StandForPattern, A
 use crate::alternative::{Alternative, all_met, labelled, loosened, push_following};
 use crate::leaves::{bind_alternatives, class_alternatives, empty_alternatives};
 use crate::limits::limit_alternatives;
-use crate::measures::weight_product;
-use sled_base::NoMemory;
+use crate::weights::lone_product;
+use sled_base::{MAX_MATCH, NoMemory};
 use sled_model::Pattern;
 use sqlite_items::Items;
 use std::alloc::Global;
@@ -26,7 +26,7 @@ pub(crate) fn expand(
     at: usize,
 ) -> Result<Items<Alternative>, NoMemory>
     requires tokens { AreTokens tokens.now }
-    requires at { at ≤ 32 }
+    requires at { at ≤ MAX_MATCH }
     ensures { IfOk result (StandForPattern tokens.now pattern.now at) }
 {
     match pattern {
@@ -62,7 +62,7 @@ fn expand_either(
     at: usize,
 ) -> Result<Items<Alternative>, NoMemory>
     requires tokens { AreTokens tokens.now }
-    requires at { at ≤ 32 }
+    requires at { at ≤ MAX_MATCH }
     ensures { IfOk result (StandFor tokens.now (fold_meanings either (map (results (alone tokens.now)) parts.now)) (sum (map (lone_weight_of tokens.now) parts.now)) (greatest (map (lone_len tokens.now) parts.now)) at) }
 {
     let Some((first, rest)) = parts.split_first() else {
@@ -84,10 +84,10 @@ fn expand_both(
     at: usize,
 ) -> Result<Items<Alternative>, NoMemory>
     requires tokens { AreTokens tokens.now }
-    requires at { at ≤ 32 }
+    requires at { at ≤ MAX_MATCH }
     ensures { IfOk result (StandFor tokens.now (fold_meanings both (map (results (alone tokens.now)) parts.now)) (product (map (lone_weight_of tokens.now) parts.now)) (greatest (map (lone_len tokens.now) parts.now)) at) }
 {
-    if weight_product(tokens, parts) == 0 {
+    if lone_product(tokens, parts) == 0 {
         return Ok(Items::new(alloc));
     }
     let Some((first, rest)) = parts.split_first() else {
@@ -110,10 +110,10 @@ fn expand_chain(
     at: usize,
 ) -> Result<Items<Alternative>, NoMemory>
     requires tokens { AreTokens tokens.now }
-    requires at { at ≤ 32 }
+    requires at { at ≤ MAX_MATCH }
     ensures { IfOk result (StandFor tokens.now (fold_meanings chain (map (results (alone tokens.now)) parts.now)) (product (map (lone_weight_of tokens.now) parts.now)) (sum (map (lone_len tokens.now) parts.now)) at) }
 {
-    if weight_product(tokens, parts) == 0 {
+    if lone_product(tokens, parts) == 0 {
         return Ok(Items::new(alloc));
     }
     let Some((first, rest)) = parts.split_first() else {

@@ -8,7 +8,7 @@ ghost use Rattle.pattern_normal.specs.Alternatives.{shown, reaching as reaching_
 use crate::Spot;
 use crate::alternative::Alternative;
 use bit_cases::ByteCase;
-use sled_base::NoMemory;
+use sled_base::{MAX_MATCH, NoMemory};
 use sqlite_items::Items;
 use std::alloc::Global;
 use token_bits::{ClassId, FieldId, Tokens};
@@ -19,12 +19,12 @@ pub(crate) fn reaching(
     end: usize,
     spots: Items<Spot>,
 ) -> Result<Items<Alternative>, NoMemory>
-    ensures shown { IfOk result (λ cs. end ≤ 32 → (tokens : Tokens) (window : List ℕ) → shown tokens window cs ≡ reaching_of tokens spots end window) }
+    ensures shown { IfOk result (λ cs. end ≤ MAX_MATCH → (tokens : Tokens) (window : List ℕ) → shown tokens window cs ≡ reaching_of tokens spots end window) }
     ensures ends { IfOk result (All (λ a. a.bits.len ≡ end)) }
     ensures count { IfOk result (λ cs. length cs ≤ 1) }
 {
     let mut alternatives = Items::new(alloc);
-    if end > 32 {
+    if end > MAX_MATCH as usize {
         return Ok(alternatives);
     }
     alternatives.push(Alternative {
@@ -41,7 +41,7 @@ pub(crate) fn empty_alternatives(
     tokens: &Tokens,
     at: usize,
 ) -> Result<Items<Alternative>, NoMemory>
-    requires { at ≤ 32 }
+    requires { at ≤ MAX_MATCH }
     ensures { IfOk result (StandFor tokens.now (λ window i. one_match [] 0) 1 0 at) }
 {
     reaching(alloc, at, Items::new(alloc))
@@ -53,7 +53,7 @@ pub(crate) fn class_alternatives(
     class: ClassId,
     at: usize,
 ) -> Result<Items<Alternative>, NoMemory>
-    requires { at ≤ 32 }
+    requires { at ≤ MAX_MATCH }
     ensures { IfOk result (StandFor tokens.now (class_results tokens.now class) 1 (class_len tokens.now class) at) }
 {
     match tokens.class(class) {
@@ -68,7 +68,7 @@ pub(crate) fn bind_alternatives(
     field: FieldId,
     at: usize,
 ) -> Result<Items<Alternative>, NoMemory>
-    requires { at ≤ 32 }
+    requires { at ≤ MAX_MATCH }
     ensures { IfOk result (StandFor tokens.now (bind_results tokens.now field) 1 (token_len tokens.now field) at) }
 {
     let Some(class) = tokens.class_of(field) else {

@@ -5,7 +5,7 @@ ghost use Rattle.sled_model.specs.Measures.{capped, class_len as class_len_of, g
 ghost use Rattle.token_bits.specs.Tokens.{token_len};
 ghost use Rattle.pattern_normal.specs.Alone.{lone_len as lone_len_of};
 
-use crate::measures::capped_sum;
+use crate::caps::capped_sum;
 use sled_model::{Pattern, Spec};
 use token_bits::{ClassId, FieldId, Tokens};
 

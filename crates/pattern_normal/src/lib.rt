@@ -2,17 +2,21 @@
 #![tactic(auto)]
 
 mod alternative;
+mod caps;
 mod case;
 mod expand;
 mod leaves;
 mod lengths;
 mod limits;
+mod made;
 mod measures;
+mod sizes;
 mod skeleton;
 #[cfg(test)]
 mod tests;
+mod weights;
 
 pub use case::{Case, CaseList, cases_of};
 pub use lengths::longest;
-pub use measures::{size, weight};
+pub use measures::{body_size, body_weight, size, size_over, weight, weight_over};
 pub use skeleton::{Skeleton, Spot, SpotList};

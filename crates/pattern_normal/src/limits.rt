@@ -8,7 +8,7 @@ ghost use Rattle.pattern_normal.specs.Alternatives.{StandFor, AreLimitsOf};
 use crate::alternative::{Alternative, plain_alternatives};
 use crate::leaves::reaching;
 use relation_cases::limit_cases;
-use sled_base::NoMemory;
+use sled_base::{MAX_MATCH, NoMemory};
 use sled_model::Relation;
 use sqlite_items::Items;
 use std::alloc::Global;
@@ -23,7 +23,7 @@ pub(crate) fn limit_alternatives(
     at: usize,
 ) -> Result<Items<Alternative>, NoMemory>
     requires tokens { AreTokens tokens.now }
-    requires at { at ≤ 32 }
+    requires at { at ≤ MAX_MATCH }
     ensures { IfOk result (StandFor tokens.now (limit_results tokens.now field relation limit) (limit_weight (width_at tokens.now field) relation limit) (token_len tokens.now field) at) }
 {
     let Some(known) = tokens.field(field) else {
@@ -32,7 +32,7 @@ pub(crate) fn limit_alternatives(
     let Some(class) = tokens.class(known.class) else {
         return Ok(Items::new(alloc));
     };
-    if at + class.byte_count() > 32 {
+    if at + class.byte_count() > MAX_MATCH as usize {
         return Ok(Items::new(alloc));
     }
     token_alternatives(alloc, class, known, relation, limit, at)
@@ -50,7 +50,7 @@ fn token_alternatives(
     requires width { IsWidth class.width }
     requires order { field.lo ≤ field.hi }
     requires within { field.hi < class.width }
-    requires fits { at + byte_count class ≤ 32 }
+    requires fits { at + byte_count class ≤ MAX_MATCH }
     ensures { IfOk result (AreLimitsOf class field relation limit at) }
 {
     if u64::from(limit) < 1u64 << (field.hi - field.lo + 1) {

@@ -1,11 +1,15 @@
-// Cases of a worked pattern, its weight and its size.
+// Cases of a worked pattern, and measures of patterns and of a constructor.
 ghost use Rattle.std.specs.Prelude.{◌≡◌, [], ◌∷◌, IfOk};
 ghost use Rattle.token_bits.specs.Tokens.{AreTokens, token_len};
 ghost use Rattle.sled_model.specs.declared.pattern.Relation.TheVariants.{Equal, Below};
+ghost use Rattle.sled_model.specs.Leaves.{IsNoApplication, AllLeaves};
+ghost use Rattle.pattern_normal.specs.Operands.{ApplyNothing};
 
-use crate::{cases_of, size, weight};
+use crate::{body_size, body_weight, cases_of, size, size_over, weight, weight_over};
 use sled_base::NoMemory;
-use sled_model::{Pattern, RawEntry, Relation, Spec};
+use sled_model::{
+    Constructor, ConstructorNames, KindList, OperandKind, Pattern, RawEntry, Relation, Spec, TypeId,
+};
 use sqlite_items::{Boxed, Items};
 use std::alloc::Global;
 use std::test::Fail;
@@ -16,6 +20,7 @@ fn spec(alloc: Global) -> Result<Spec, NoMemory>
     ensures sound { IfOk result (λ spec. AreTokens spec.tokens) }
     ensures low { IfOk result (λ spec. token_len spec.tokens (record { 0 = 0 }) ≡ 1) }
     ensures high { IfOk result (λ spec. token_len spec.tokens (record { 0 = 1 }) ≡ 1) }
+    ensures nothing { IfOk result (λ spec. spec.constructors ≡ []) }
 {
     let mut tokens = Tokens::new(alloc);
     let class = tokens.add_class(Class {
@@ -36,7 +41,9 @@ fn spec(alloc: Global) -> Result<Spec, NoMemory>
         tokens,
         class_names: Items::new(alloc),
         field_names: Items::new(alloc),
+        type_names: Items::new(alloc),
         constructors: Items::new(alloc),
+        constructor_names: ConstructorNames::new(alloc),
     })
 }
 
@@ -68,6 +75,51 @@ fn pattern(alloc: Global) -> Result<Pattern, NoMemory>
     let either = two(alloc, low(Relation::Equal, 1), Pattern::Bind(FieldId(0)))?;
     let labelled = Pattern::Label(7, Boxed::new(alloc, Pattern::Both(both))?);
     Ok(Pattern::Chain(two(alloc, labelled, Pattern::Either(either))?))
+}
+
+fn constructor(
+    alloc: Global,
+    made: Option<TypeId>,
+    operands: KindList,
+    body: Pattern,
+) -> Constructor
+    ensures { result.body ≡ body }
+{
+    Constructor {
+        name: Items::new(alloc),
+        result: made,
+        operands,
+        names: Items::new(alloc),
+        equations: Items::new(alloc),
+        body,
+    }
+}
+
+/// The type 0 is made by the bodies `low < 7` and `low < 3`, of weights 3 and 2.
+fn typed_spec(alloc: Global) -> Result<Spec, NoMemory>
+    ensures sound { IfOk result (λ spec. AreTokens spec.tokens) }
+    ensures plain { IfOk result (λ spec. ApplyNothing spec.constructors) }
+{
+    let mut spec = spec(alloc)?;
+    let three = low(Relation::Below, 7);
+    let two = low(Relation::Below, 3);
+    let made = Some(TypeId(0));
+    spec.constructors
+        .push(constructor(alloc, made, Items::new(alloc), three))?;
+    spec.constructors
+        .push(constructor(alloc, made, Items::new(alloc), two))?;
+    Ok(spec)
+}
+
+/// `low < 7 ; t`, with the operand t of type 0, and a whole number.
+fn instruction(alloc: Global) -> Result<Constructor, NoMemory>
+    ensures { IfOk result (λ c. AllLeaves IsNoApplication c.body) }
+{
+    let mut operands = Items::new(alloc);
+    operands.push(OperandKind::Typed(TypeId(0)))?;
+    operands.push(OperandKind::Whole)?;
+    let body = Pattern::Chain(two(alloc, low(Relation::Below, 7), Pattern::Operand(0))?);
+    Ok(constructor(alloc, None, operands, body))
 }
 
 /// A number for each entry: what it is, its value and its offset, each a decimal digit.
@@ -124,5 +176,16 @@ fn weight_and_size(rt: HostRuntime) -> Result<(), Fail> {
     assert_eq!(rt; size(&spec, &pattern), 3);
     assert_eq!(rt; weight(&spec, &low(Relation::Differs, 3)), 4);
     assert_eq!(rt; cases_of(rt.alloc(), &spec, &pattern)?.len(), 4);
+    Ok(())
+}
+
+#[test]
+fn operands(rt: HostRuntime) -> Result<(), Fail> {
+    let spec = typed_spec(rt.alloc())?;
+    let instruction = instruction(rt.alloc())?;
+    assert_eq!(rt; body_weight(&spec, &instruction), 15);
+    assert_eq!(rt; body_size(&spec, &instruction), 3);
+    assert_eq!(rt; weight_over(&spec.tokens, &[5], &instruction.body), 15);
+    assert_eq!(rt; size_over(&[5], &instruction.body), 5);
     Ok(())
 }

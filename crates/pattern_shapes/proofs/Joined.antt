@@ -1,6 +1,5 @@
 -- Lists of shapes that are put together without repeats have the members of what they are put together from.
 use Rattle.std.proofs.Common.{◌≡◌, ◌≢◌, ◌⊎◌, inl, inr, ⊎_elim, true, List, [], ◌∷◌, ◌++◌, map, reverse, get_or, Contains, sym, subst, arith}
-use Rattle.std.specs.List.{AllPairs}
 use Rattle.std.proofs.lemmas.Bool.{both_ways, or_cases, or_left, or_right, cond_both}
 use Rattle.std.proofs.lemmas.List.Elements.{Contains-append_left, Contains-append_right, Contains-append_cases, Contains-push, Contains-push_cases, Contains-get_or}
 use Rattle.std.proofs.lemmas.List.Quantifiers.{all_pairs_push}
@@ -9,11 +8,7 @@ use Rattle.sled_model.specs.declared.shape.Shape.{Shape}
 use Rattle.sled_model.specs.Shapes.{is_same_shape, loose_shape, each_with}
 use Rattle.sled_model.proofs.Members.{Contains-nil, Contains-here, Contains-there, Contains-cons_cases, Contains-at, Contains-map, Contains-map_cases}
 use Rattle.sled_model.proofs.ShapeLemmas.{same_shape_equal, same_shape_self, each_with-same}
-use Rattle.pattern_shapes.specs.Forms.{SameMembers, has, with_shape, with_shapes}
-
--- no shape stands twice
-abbrev pub IsOnce : List Shape → Type 0
-IsOnce ss = AllPairs (λ a b. a ≢ b) ss
+use Rattle.pattern_shapes.specs.Forms.{SameMembers, IsOnce, has, with_shape, with_shapes}
 
 has_member : (ss : List Shape) (a : Shape) → has ss a ≡ true → Contains ss a
 has_member [] a h = cc
@@ -122,3 +117,11 @@ pub same_product : (op : Shape → Shape → Shape) (ss ss' ts ts' : List Shape)
     → SameMembers (with_shapes [] (each_with op ss ts)) (each_with op ss' ts')
 same_product op ss ss' ts ts' first second = same_then (with_shapes [] (each_with op ss ts)) (each_with op ss ts) (each_with op ss' ts')
     (same_distinct (each_with op ss ts)) (each_with-same op ss ss' ts ts' first second)
+
+-- ---- lists that are added to
+
+pub same_added : (ss ts found : List Shape) → found ≡ with_shapes ss (reverse ts) → SameMembers found (ss ++ ts)
+same_added ss ts found e = subst (λ us. SameMembers us (ss ++ ts)) (sym e) (same_with ss ss ts ts (same_self ss) (same_self ts))
+
+pub once_added : (ss ts found : List Shape) → found ≡ with_shapes ss (reverse ts) → IsOnce ss → IsOnce found
+once_added ss ts found e once = subst IsOnce (sym e) (with_shapes_once ss (reverse ts) once)

@@ -1,8 +1,7 @@
 // What is said of the shapes of a pattern.
 ghost use Rattle.std.specs.Prelude.{◌≡◌, ◌&&◌, [], true, reverse, map, IfOk};
 ghost use Rattle.sled_model.specs.declared.pattern.Pattern.{Pattern};
-ghost use Rattle.token_bits.specs.declared.tokens.Tokens.{Tokens as TokensOf};
-ghost use Rattle.sled_model.specs.Shapes.{shapes as shapes_of, loose_shape, chain_shape, both_shape, each_with, all_agree as all_agree_of, are_closed, are_one_shape as are_one_shape_of, lengths_within as lengths_within_of};
+ghost use Rattle.sled_model.specs.Shapes.{ShapeContext, shapes as shapes_of, loose_shape, chain_shape, both_shape, each_with, all_agree as all_agree_of, are_closed, are_one_shape as are_one_shape_of, lengths_within as lengths_within_of};
 ghost use Rattle.pattern_shapes.specs.Forms.{with_shapes, IsFormOf};
 
 use crate::compare::{all_agree, are_one_shape};
@@ -29,7 +28,7 @@ impl Form {
     /// Whether the whole pattern is loose in no alternative.
     pub fn is_closed(&self) -> bool
         ensures value { result ≡ are_closed self.now.shapes }
-        ensures of_pattern { (tokens : TokensOf) (p : Pattern) → IsFormOf tokens p self.now → result ≡ are_closed (shapes_of tokens p) }
+        ensures of_pattern { (cx : ShapeContext) (p : Pattern) → IsFormOf cx p self.now → result ≡ are_closed (shapes_of cx p) }
     {
         is_closed(self.shapes.as_slice())
     }
@@ -37,7 +36,7 @@ impl Form {
     /// Whether every alternative of the pattern has so many bytes at least, and so many at most.
     pub fn lengths_within(&self, tokens: &Tokens, least: usize, most: usize) -> bool
         ensures value { result ≡ lengths_within_of least most tokens.now self.now.shapes }
-        ensures of_pattern { (p : Pattern) → IsFormOf tokens.now p self.now → result ≡ lengths_within_of least most tokens.now (shapes_of tokens.now p) }
+        ensures of_pattern { (cx : ShapeContext) (p : Pattern) → IsFormOf cx p self.now → result ≡ lengths_within_of least most tokens.now (shapes_of cx p) }
     {
         lengths_within(tokens, self.shapes.as_slice(), least, most)
     }

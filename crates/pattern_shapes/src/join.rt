@@ -1,7 +1,7 @@
 // Lists of shapes, put together without repeats.
-ghost use Rattle.std.specs.Prelude.{◌≡◌, [], length, map, reverse, IfOk, OnOk};
+ghost use Rattle.std.specs.Prelude.{◌≡◌, [], ◌++◌, length, map, reverse, IfOk, OnOk};
 ghost use Rattle.sled_model.specs.Shapes.{chain_shape, both_shape, loose_shape, each_with};
-ghost use Rattle.pattern_shapes.specs.Forms.{with_shape, with_shapes, joint_shape};
+ghost use Rattle.pattern_shapes.specs.Forms.{SameMembers, IsOnce, with_shape, with_shapes, joint_shape};
 
 use crate::compare::has;
 use sled_base::NoMemory;
@@ -29,9 +29,12 @@ fn add_shape(shapes: &mut ShapeList, shape: Shape) -> Result<(), NoMemory>
     Ok(())
 }
 
-/// Adds those of the other list, from its end on, that are not in the list yet.
+/// Adds those of the other list, from its end on, that are not in the list yet: where no shape stood twice, none does now. On
+/// `NoMemory` it has added some of them.
 pub fn add_shapes(shapes: &mut ShapeList, mut more: ShapeList) -> Result<(), NoMemory>
-    ensures { OnOk result (shapes.new ≡ with_shapes shapes.old (reverse more)) }
+    ensures value { OnOk result (shapes.new ≡ with_shapes shapes.old (reverse more)) }
+    ensures members { OnOk result (SameMembers shapes.new (shapes.old ++ more)) }
+    ensures once { OnOk result (IsOnce shapes.old → IsOnce shapes.new) }
 {
     while let Some(shape) = more.pop() {
         add_shape(shapes, shape)?;
@@ -110,6 +113,28 @@ fn joined(alloc: Global, joint: Joint, a: &Shape, b: &Shape) -> Result<Shape, No
     let a = copy_shape(alloc, a)?;
     let b = copy_shape(alloc, b)?;
     joined_moved(joint, a, b)
+}
+
+/// A copy of the list.
+pub fn copy_shapes(alloc: Global, shapes: &[Shape]) -> Result<ShapeList, NoMemory>
+    ensures { IfOk result (λ copy. copy ≡ shapes.now) }
+{
+    let mut copy = Items::new(alloc);
+    for shape in shapes {
+        copy.push(copy_shape(alloc, shape)?)?;
+    }
+    Ok(copy)
+}
+
+/// A copy of the list, in which each shape stands once.
+pub fn distinct_shapes(alloc: Global, shapes: &[Shape]) -> Result<ShapeList, NoMemory>
+    ensures { IfOk result (λ found. found ≡ with_shapes [] shapes.now) }
+{
+    let mut found = Items::new(alloc);
+    for shape in shapes {
+        add_shape(&mut found, copy_shape(alloc, shape)?)?;
+    }
+    Ok(found)
 }
 
 /// Adds the shape joined with each of the seconds.

@@ -11,5 +11,6 @@ mod pattern_form;
 mod tests;
 
 pub use form::Form;
+pub use join::{add_shapes, copy_shapes};
 pub use measure::{is_closed, lengths_within};
 pub use pattern_form::form_of;

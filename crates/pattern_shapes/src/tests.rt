@@ -1,9 +1,9 @@
 ghost use Rattle.std.specs.Prelude.{IfOk};
 ghost use Rattle.token_bits.specs.Tokens.{AreTokens};
 
-use crate::{Form, form_of};
+use crate::{Form, add_shapes, form_of};
 use sled_base::NoMemory;
-use sled_model::{Pattern, PatternList, Relation};
+use sled_model::{Pattern, PatternList, Relation, ShapeList};
 use sqlite_items::{Boxed, Items};
 use std::alloc::Global;
 use std::test::Fail;
@@ -64,7 +64,7 @@ fn asked(form: &Form) -> (bool, bool, bool) {
 fn fields_of_two_classes_at_one_place(rt: HostRuntime) -> Result<(), Fail> {
     let tokens = two_classes(rt.alloc())?;
     let parts = pair(rt.alloc(), is_one(0), is_one(1))?;
-    let form = form_of(rt.alloc(), &tokens, &Pattern::Both(parts))?;
+    let form = form_of(rt.alloc(), &tokens, &[], &Pattern::Both(parts))?;
     assert_eq!(rt; asked(&form), (false, true, true));
     Ok(())
 }
@@ -74,7 +74,7 @@ fn loose_token_and_two_tokens(rt: HostRuntime) -> Result<(), Fail> {
     let tokens = two_classes(rt.alloc())?;
     let two = Pattern::Chain(pair(rt.alloc(), is_one(0), is_one(1))?);
     let parts = pair(rt.alloc(), loose_one(rt.alloc(), 0)?, two)?;
-    let form = form_of(rt.alloc(), &tokens, &Pattern::Both(parts))?;
+    let form = form_of(rt.alloc(), &tokens, &[], &Pattern::Both(parts))?;
     assert_eq!(rt; asked(&form), (true, true, true));
     assert_eq!(rt; (form.shapes.len(), form.is_closed()), (1, true));
     assert!(rt; form.lengths_within(&tokens, 5, 5));
@@ -86,7 +86,7 @@ fn loose_token_and_two_tokens(rt: HostRuntime) -> Result<(), Fail> {
 fn loose_before_another(rt: HostRuntime) -> Result<(), Fail> {
     let tokens = two_classes(rt.alloc())?;
     let parts = pair(rt.alloc(), loose_one(rt.alloc(), 0)?, is_one(1))?;
-    let form = form_of(rt.alloc(), &tokens, &Pattern::Chain(parts))?;
+    let form = form_of(rt.alloc(), &tokens, &[], &Pattern::Chain(parts))?;
     assert_eq!(rt; asked(&form), (true, false, true));
     assert!(rt; form.is_closed());
     Ok(())
@@ -96,11 +96,44 @@ fn loose_before_another(rt: HostRuntime) -> Result<(), Fail> {
 fn either_of_two_shapes(rt: HostRuntime) -> Result<(), Fail> {
     let tokens = two_classes(rt.alloc())?;
     let parts = pair(rt.alloc(), is_one(0), loose_one(rt.alloc(), 1)?)?;
-    let form = form_of(rt.alloc(), &tokens, &Pattern::Either(parts))?;
+    let form = form_of(rt.alloc(), &tokens, &[], &Pattern::Either(parts))?;
     assert_eq!(rt; asked(&form), (true, true, false));
     assert_eq!(rt; (form.shapes.len(), form.is_closed()), (2, false));
     assert!(rt; form.lengths_within(&tokens, 1, 4));
     assert!(rt; !form.lengths_within(&tokens, 2, 4));
+    Ok(())
+}
+
+/// The shapes of `field 0 = 1 | field 1 = 1 ...`
+fn two_shapes(alloc: Global, tokens: &Tokens) -> Result<ShapeList, NoMemory> {
+    let parts = pair(alloc, is_one(0), loose_one(alloc, 1)?)?;
+    let form = form_of(alloc, tokens, &[], &Pattern::Either(parts))?;
+    Ok(form.shapes)
+}
+
+#[test]
+fn a_body_with_a_typed_operand_of_two_shapes(rt: HostRuntime) -> Result<(), Fail> {
+    let tokens = two_classes(rt.alloc())?;
+    let operands = [two_shapes(rt.alloc(), &tokens)?];
+    let parts = pair(rt.alloc(), Pattern::Operand(0), is_one(1))?;
+    let body = form_of(rt.alloc(), &tokens, &operands, &Pattern::Chain(parts))?;
+    assert_eq!(rt; asked(&body), (true, false, true));
+    assert_eq!(rt; (body.shapes.len(), body.is_closed()), (2, true));
+    assert!(rt; body.lengths_within(&tokens, 5, 8));
+    assert!(rt; !body.lengths_within(&tokens, 5, 7));
+    let none = form_of(rt.alloc(), &tokens, &operands, &Pattern::Operand(1))?;
+    assert_eq!(rt; none.shapes.len(), 0);
+    Ok(())
+}
+
+#[test]
+fn shapes_of_a_type_each_once(rt: HostRuntime) -> Result<(), Fail> {
+    let tokens = two_classes(rt.alloc())?;
+    let mut shapes = two_shapes(rt.alloc(), &tokens)?;
+    let form = form_of(rt.alloc(), &tokens, &[], &Pattern::Bind(FieldId(1)))?;
+    add_shapes(&mut shapes, form.shapes)?;
+    add_shapes(&mut shapes, two_shapes(rt.alloc(), &tokens)?)?;
+    assert_eq!(rt; shapes.len(), 3);
     Ok(())
 }
 
@@ -109,7 +142,7 @@ fn either_of_one_shape(rt: HostRuntime) -> Result<(), Fail> {
     let tokens = two_classes(rt.alloc())?;
     let parts = pair(rt.alloc(), is_one(1), Pattern::Bind(FieldId(1)))?;
     let labelled = Pattern::Label(0, Boxed::new(rt.alloc(), Pattern::Either(parts))?);
-    let form = form_of(rt.alloc(), &tokens, &labelled)?;
+    let form = form_of(rt.alloc(), &tokens, &[], &labelled)?;
     assert_eq!(rt; asked(&form), (true, true, true));
     assert_eq!(rt; form.shapes.len(), 1);
     Ok(())

@@ -12,9 +12,9 @@ use Rattle.sled_model.specs.declared.statement.Piece.{Piece}
 use Rattle.sled_model.specs.Leaves.{AllLeaves, NamesNoConstructor}
 use Rattle.sled_model.specs.Measures.{capped, pattern_weight, pattern_size, pattern_len}
 use Rattle.sled_model.specs.PlainStatements.{IsBoundedArm, IsPlainArm, IsMatchLength}
-use Rattle.sled_model.specs.Results.{arm_context, arm_results, known_from}
-use Rattle.sled_model.specs.Shapes.{shapes, conjunctions_agree, lengths_within}
-use Rattle.sled_model.proofs.ShapeResults.{results_within}
+use Rattle.sled_model.specs.Results.{arm_context, arm_results}
+use Rattle.sled_model.specs.Shapes.{spec_shapes, shapes, conjunctions_agree, lengths_within}
+use Rattle.sled_model.proofs.ShapeResults.{plain_shaped, results_within}
 use Rattle.sled_parser.specs.declared.tree.ArmTree.{ArmTree}
 use Rattle.sled_parser.specs.declared.tree.PatternTree.{PatternTree}
 use Rattle.token_bits.specs.declared.tokens.Tokens.{Tokens}
@@ -23,14 +23,16 @@ use Rattle.tree_meaning.specs.Bindings.{binds_once, sides_bind_alike}
 use Rattle.tree_meaning.specs.declared.parts.Site.TheVariants as site
 use Rattle.tree_meaning.specs.Patterns.{patterns_of}
 use Rattle.tree_meaning.specs.Scopes.{Declared}
-use Rattle.tree_meaning.specs.Sound.{IsSoundMeaning, IsSoundPattern}
+use Rattle.tree_meaning.specs.Sound.{IsSoundPattern}
 use Rattle.tree_meaning.proofs.Soundness.{patterns_sound, sound_plain}
 use Rattle.sled_elab.specs.declared.lack.Lack.{Lack}
 use Rattle.sled_elab.specs.declared.lack.Lack.TheVariants.{Condition, NotBuilt}
 use Rattle.sled_elab.specs.Actions.{unquoted, action_pieces}
-use Rattle.sled_elab.specs.Conditions.{first_unmet, unmet_lack, arm_lack, arm_conditions, arm_naming_conditions, arm_forming_conditions, labels_are_new, is_closed_arm, has_lengths, has_measure}
-use Rattle.sled_elab.specs.Declarations.{first_of}
+use Rattle.sled_elab.specs.Conditions.{first_unmet, unmet_lack, arm_lack, arm_conditions, arm_naming_conditions, arm_forming_conditions, is_closed_arm, has_lengths, has_measure}
+use Rattle.sled_elab.specs.Declarations.{first_of, labels_are_new}
+use Rattle.sled_elab.specs.Descriptions.{IsSound}
 use Rattle.sled_elab.specs.Statements.{arm_names, arm_pattern}
+use Rattle.sled_elab.proofs.DescriptionLemmas.{no_locals}
 
 -- ---- the first condition that is unmet
 
@@ -141,8 +143,8 @@ both_true false b h = cc
 
 -- the conjunctions agree, and lengths and measures are as they have to be
 pub record IsFormed (spec : Spec) (before : ℕ) (p : Pattern) : Type 0 where
-  pub agree : conjunctions_agree spec.tokens p ≡ true
-  pub lengths : lengths_within 1 32 spec.tokens (shapes spec.tokens p) ≡ true
+  pub agree : conjunctions_agree (spec_shapes spec) p ≡ true
+  pub lengths : lengths_within 1 32 spec.tokens (shapes (spec_shapes spec) p) ≡ true
   pub longest : pattern_len spec p ≤ 32
   pub measure : has_measure spec before p ≡ true
 
@@ -154,13 +156,13 @@ forming_met spec declared before tree p h =
     let once = binds_once declared tree in
     let lengths = has_lengths spec p in
     let measure = has_measure spec before p in
-    let one = all_met 6 (conjunctions_agree spec.tokens p) ((7, closed) ∷ (8, alike) ∷ (9, once) ∷ (14, lengths) ∷ (15, measure) ∷ []) h in
+    let one = all_met 6 (conjunctions_agree (spec_shapes spec) p) ((7, closed) ∷ (8, alike) ∷ (9, once) ∷ (14, lengths) ∷ (15, measure) ∷ []) h in
     let two = all_met 7 closed ((8, alike) ∷ (9, once) ∷ (14, lengths) ∷ (15, measure) ∷ []) one.1 in
     let three = all_met 8 alike ((9, once) ∷ (14, lengths) ∷ (15, measure) ∷ []) two.1 in
     let four = all_met 9 once ((14, lengths) ∷ (15, measure) ∷ []) three.1 in
     let five = all_met 14 lengths ((15, measure) ∷ []) four.1 in
     let six = all_met 15 measure [] five.1 in
-    let within = both_true (lengths_within 1 32 spec.tokens (shapes spec.tokens p)) (nat_le (pattern_len spec p) 32) five.0 in
+    let within = both_true (lengths_within 1 32 spec.tokens (shapes (spec_shapes spec) p)) (nat_le (pattern_len spec p) 32) five.0 in
     record { agree = one.0; lengths = within.0; longest = leb-true (pattern_len spec p) 32 within.1; measure = six.0 }
 
 none_front : (front rest : List (ℕ × Bool)) (o : Option ℕ) → first_unmet front ≡ o → first_unmet (front ++ rest) ≡ None → o ≡ None
@@ -198,30 +200,28 @@ capped_small n k is small = omega arith
 
 -- ---- arms that are bounded
 
-no_known : (spec : Spec) → spec.constructors ≡ [] → (arm_context spec).known ≡ []
-no_known spec none = ap (known_from spec.tokens []) none
-
--- over no constructors, results have the lengths that the shapes have
-bounded_arm : (spec : Spec) (before : ℕ) (arm : Arm) → spec.constructors ≡ [] → IsFormed spec before arm.pattern → IsBoundedArm spec arm
-bounded_arm spec before arm none formed = λ bytes.
+-- where no constructor is named, results have the lengths that the shapes have
+bounded_arm : (spec : Spec) (before : ℕ) (arm : Arm) → AllLeaves NamesNoConstructor arm.pattern → IsFormed spec before arm.pattern → IsBoundedArm spec arm
+bounded_arm spec before arm plain formed = λ bytes.
     let found : List Match = arm_results spec arm bytes 0 in
+    let shaped = plain_shaped (arm_context spec) (spec_shapes spec) refl arm.pattern plain formed.agree in
     All-weaker (Contains found) (λ m. IsMatchLength m.len)
-    (λ m h. results_within (arm_context spec) arm.pattern 1 32 (no_known spec none) formed.agree formed.lengths bytes 0 m h)
+    (λ m h. results_within (arm_context spec) (spec_shapes spec) arm.pattern shaped 1 32 formed.lengths bytes 0 m h)
     found (All-contains_itself found)
 
-pub plain_arm : (spec : Spec) (before : ℕ) (arm : Arm) → spec.constructors ≡ [] → AllLeaves NamesNoConstructor arm.pattern → IsFormed spec before arm.pattern → IsPlainArm spec arm
-plain_arm spec before arm none plain formed = record { bounded = bounded_arm spec before arm none formed; plain = plain; fits = formed.longest }
+pub plain_arm : (spec : Spec) (before : ℕ) (arm : Arm) → AllLeaves NamesNoConstructor arm.pattern → IsFormed spec before arm.pattern → IsPlainArm spec arm
+plain_arm spec before arm plain formed = record { bounded = bounded_arm spec before arm plain formed; plain = plain; fits = formed.longest }
 
 first_plain : (tokens : Tokens) (ps : List Pattern) → All (IsSoundPattern tokens) ps → AllLeaves NamesNoConstructor (first_of ps)
 first_plain tokens [] h = tt
 first_plain tokens (p ∷ ps) h = sound_plain tokens p (All-head (IsSoundPattern tokens) p ps h)
 
 -- the pattern of an arm names no constructor, where its names are known and its numbers fit
-pub arm_plain : (spec : Spec) (declared : Declared) (tree : PatternTree) (names : List (List ℕ)) → All (IsSoundMeaning spec.tokens) declared.meanings
+pub arm_plain : (spec : Spec) (declared : Declared) (tree : PatternTree) (names : List (List ℕ)) → IsSound (record { spec = spec; declared = declared })
     → first_unmet (arm_naming_conditions spec declared tree) ≡ None → AllLeaves NamesNoConstructor (first_of (patterns_of declared names tree))
-arm_plain spec declared tree names sound h =
+arm_plain spec declared tree names s h =
     let named = naming_met spec declared tree h in
-    first_plain spec.tokens (patterns_of declared names tree) (patterns_sound spec.tokens declared sound site.Arm names tree named.known named.fit)
+    first_plain spec.tokens (patterns_of declared names tree) (patterns_sound spec.tokens declared s.sound (no_locals (record { spec = spec; declared = declared }) s) site.Arm names tree named.known named.fit)
 
 -- ---- names and numbers
 

@@ -1,16 +1,18 @@
--- What names stand for stays sound where classes and fields are added.
-use Rattle.std.proofs.Common.{◌≡◌, ℕ, zero, suc, ◌<◌, ◌^◌, List, [], ◌∷◌, ◌++◌, All, IsSome, slice_get, refl, sym, subst}
+-- What names stand for stays sound where classes, fields and types are added.
+use Rattle.std.proofs.Common.{◌≡◌, ℕ, zero, suc, ◌<◌, ◌≤◌, ◌^◌, List, [], ◌∷◌, ◌++◌, length, All, IsSome, slice_get, refl, sym, subst, arith}
 use Rattle.std.specs.Option.{option_map_or}
 use Rattle.std.proofs.lemmas.List.Elements.{All-weaker}
 use Rattle.token_bits.specs.declared.tokens.Tokens.{Tokens}
 use Rattle.token_bits.specs.Tokens.{width_of}
 use Rattle.sled_model.specs.declared.pattern.Pattern.{Pattern}
 use Rattle.sled_model.specs.declared.pattern.Pattern.TheVariants as pattern
+use Rattle.sled_model.specs.declared.spec.Spec.{Spec}
 use Rattle.sled_model.specs.Leaves.{HasLimitInField}
 use Rattle.tree_meaning.specs.declared.scope.Meaning.{Meaning}
 use Rattle.tree_meaning.specs.declared.scope.Meaning.TheVariants as meaning
 use Rattle.tree_meaning.specs.Sound.{NamesKnown, IsSoundLeaf, IsSoundPattern, IsSoundMeaning}
 use Rattle.tree_meaning.proofs.Soundness.{AllLeaves-weaker}
+use Rattle.sled_elab.specs.Descriptions.{NamesKnownType}
 
 -- what stands at a place stands there in a longer list
 pub slice_get-front : {A : Type 0} (xs ys : List A) (k : ℕ) → IsSome (slice_get xs k) → slice_get (xs ++ ys) k ≡ slice_get xs k
@@ -22,7 +24,7 @@ slice_get-front (x ∷ xs) ys (suc k) h = slice_get-front xs ys k h
 abbrev pub IsKept : {A : Type 0} → List A → List A → Type 0
 IsKept xs ys = (k : ℕ) → IsSome (slice_get xs k) → slice_get ys k ≡ slice_get xs k
 
-some_kept : {A : Type 0} (xs ys : List A) (k : ℕ) → IsKept xs ys → IsSome (slice_get xs k) → IsSome (slice_get ys k)
+pub some_kept : {A : Type 0} (xs ys : List A) (k : ℕ) → IsKept xs ys → IsSome (slice_get xs k) → IsSome (slice_get ys k)
 some_kept xs ys k kept h = rw (kept k h) h
 
 module _ (before later : Tokens) (classes : IsKept before.classes later.classes) (fields : IsKept before.fields later.fields) where
@@ -47,6 +49,20 @@ module _ (before later : Tokens) (classes : IsKept before.classes later.classes)
   meaning_kept (meaning.Field f) h = some_kept before.fields later.fields f.0 fields h
   meaning_kept (meaning.Pattern p) h = pattern_kept p h
   meaning_kept (meaning.Group ps) h = (h.0, All-weaker (IsSoundPattern before) (IsSoundPattern later) pattern_kept ps h.1)
+  meaning_kept (meaning.Type t) h = h
+  meaning_kept (meaning.Operand k) h = h
 
   pub meanings_kept : (ms : List Meaning) → All (IsSoundMeaning before) ms → All (IsSoundMeaning later) ms
   meanings_kept ms h = All-weaker (IsSoundMeaning before) (IsSoundMeaning later) meaning_kept ms h
+
+module _ (before later : Spec) (more : length before.type_names ≤ length later.type_names) where
+  type_kept : (m : Meaning) → NamesKnownType before m → NamesKnownType later m
+  type_kept (meaning.Class c) h = tt
+  type_kept (meaning.Field f) h = tt
+  type_kept (meaning.Pattern p) h = tt
+  type_kept (meaning.Group ps) h = tt
+  type_kept (meaning.Type t) h = omega (arith, h)
+  type_kept (meaning.Operand k) h = tt
+
+  pub types_kept : (ms : List Meaning) → All (NamesKnownType before) ms → All (NamesKnownType later) ms
+  types_kept ms h = All-weaker (NamesKnownType before) (NamesKnownType later) type_kept ms h

@@ -2,7 +2,9 @@ pub mod ActionLemmas
 pub mod Growing
 pub mod DescriptionLemmas
 pub mod ClassLemmas
+pub mod FormLemmas
 pub mod ArmLemmas
 pub mod StatementLemmas
 pub mod DefinitionLemmas
 pub mod DefinitionSound
+pub mod DeclarationLemmas

@@ -13,18 +13,19 @@ use Rattle.sled_parser.specs.declared.tree.ArmsTree.TheVariants as arms
 use Rattle.sled_parser.specs.declared.tree.MatchTree.{MatchTree}
 use Rattle.sled_model.specs.declared.pattern.Pattern.{Pattern}
 use Rattle.sled_model.specs.declared.spec.Spec.{Spec}
-use Rattle.sled_model.specs.Shapes.{shapes, conjunctions_agree, chains_are_closed, are_closed, sides_have_one_shape, lengths_within}
+use Rattle.sled_model.specs.Shapes.{spec_shapes, shapes, conjunctions_agree, chains_are_closed, are_closed, sides_have_one_shape, lengths_within}
 use Rattle.sled_model.specs.Measures.{pattern_weight, pattern_size, pattern_len}
 use Rattle.tree_meaning.specs.Names.{are_distinct, are_new}
 use Rattle.tree_meaning.specs.Scopes.{Declared}
-use Rattle.tree_meaning.specs.Parts.{labels, are_known, numbers_fit, generates_nothing, applies_nothing}
+use Rattle.tree_meaning.specs.Parts.{are_known, numbers_fit, generates_nothing, applies_nothing}
 use Rattle.tree_meaning.specs.declared.parts.Site.TheVariants as site
 use Rattle.tree_meaning.specs.Bindings.{bound, binds_once, sides_bind_alike, sides_bind_nothing, are_none}
 use Rattle.tree_meaning.specs.Patterns.{patterns_of}
 use Rattle.sled_elab.specs.declared.lack.Lack.{Lack}
 use Rattle.sled_elab.specs.declared.lack.Lack.TheVariants.{Condition, NotBuilt}
 use Rattle.sled_elab.specs.Actions.{unquoted, action_pieces}
-use Rattle.sled_elab.specs.Declarations.{Described, nothing, class_names, definition_names, item_names, after}
+use Rattle.sled_elab.specs.Declarations.{Described, nothing, class_names, definition_names, item_names, labels_are_new}
+use Rattle.sled_elab.specs.Elaboration.{after}
 use Rattle.sled_elab.specs.Statements.{arm_names, arm_pattern}
 
 -- the number of the first condition that is unmet
@@ -42,10 +43,6 @@ unmet_lack conditions = option_map Condition (first_unmet conditions)
 -- `fields of b (8) x 0:7` meets it, `fields of b (8) x 0:3 x 4:7` does not.
 abbrev pub are_declared_once : Declared → List (List ℕ) → Bool
 are_declared_once declared names = are_new declared.names names && are_distinct names
-
--- condition 1, a label is no declared name. Over `fields of b (8) x 0:7`, `L: x = 1` meets it, `x: x = 1` does not.
-abbrev pub labels_are_new : Declared → PatternTree → Bool
-labels_are_new declared tree = are_new declared.names (labels tree)
 
 abbrev pub is_class_width : ℕ → Bool
 is_class_width w = w == 8 || w == 16 || w == 32
@@ -87,9 +84,9 @@ naming_conditions d name items tree =
 -- Condition 8, the sides of a disjunction are alike: `p is x = 1 | x = 2` meets it, `p is x = 1 | y = 2` and `p is L: x = 1 | x = 2` do not.
 abbrev pub forming_conditions : Described → PatternTree → List Pattern → List (ℕ × Bool)
 forming_conditions d tree ps =
-    (6, list_all (conjunctions_agree d.spec.tokens) ps)
-    ∷ (7, list_all (chains_are_closed d.spec.tokens) ps)
-    ∷ (8, sides_bind_nothing d.declared tree && list_all (sides_have_one_shape d.spec.tokens) ps)
+    (6, list_all (conjunctions_agree (spec_shapes d.spec)) ps)
+    ∷ (7, list_all (chains_are_closed (spec_shapes d.spec)) ps)
+    ∷ (8, sides_bind_nothing d.declared tree && list_all (sides_have_one_shape (spec_shapes d.spec)) ps)
     ∷ (9, binds_nothing d.declared tree)
     ∷ []
 
@@ -107,12 +104,12 @@ decl_lack d (decl.ConstructorDecl opcode operands result equations body) = Some 
 
 -- condition 7 of an arm: it has no loose end besides. `case x = 1` meets it, `case x = 1 ...` does not.
 abbrev pub is_closed_arm : Spec → Pattern → Bool
-is_closed_arm spec p = chains_are_closed spec.tokens p && are_closed (shapes spec.tokens p)
+is_closed_arm spec p = chains_are_closed (spec_shapes spec) p && are_closed (shapes (spec_shapes spec) p)
 
 -- condition 14, lengths: each alternative has 1 to 32 bytes, and so the longest has no more. `case x = 1` meets it, `case epsilon` does
 -- not.
 abbrev pub has_lengths : Spec → Pattern → Bool
-has_lengths spec p = lengths_within 1 32 spec.tokens (shapes spec.tokens p) && nat_le (pattern_len spec p) 32
+has_lengths spec p = lengths_within 1 32 spec.tokens (shapes (spec_shapes spec) p) && nat_le (pattern_len spec p) 32
 
 -- condition 15, weights and sizes: the weight is at most 4,096 and with those of the arms before at most 16,384, and the size is at
 -- most 256
@@ -135,7 +132,7 @@ arm_naming_conditions spec declared tree =
 -- names (condition 8), and no name is bound twice in an alternative (condition 9)
 abbrev pub arm_forming_conditions : Spec → Declared → ℕ → PatternTree → Pattern → List (ℕ × Bool)
 arm_forming_conditions spec declared before tree p =
-    (6, conjunctions_agree spec.tokens p)
+    (6, conjunctions_agree (spec_shapes spec) p)
     ∷ (7, is_closed_arm spec p)
     ∷ (8, sides_bind_alike declared tree)
     ∷ (9, binds_once declared tree)

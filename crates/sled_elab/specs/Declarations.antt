@@ -1,9 +1,7 @@
--- What declarations make, one after another.
+-- What the declarations of classes, patterns and groups make.
 use Rattle.std.specs.Prelude.{ℕ, Bool, true, false, List, [], ◌∷◌, ◌++◌, length, map, fold, Option, Some, None, if◌then◌else◌}
 use Rattle.std.specs.List.{flat_map}
 use Rattle.sled_lexer.specs.Spelled.{number_value}
-use Rattle.sled_parser.specs.declared.tree.Decl.{Decl}
-use Rattle.sled_parser.specs.declared.tree.Decl.TheVariants as decl
 use Rattle.sled_parser.specs.declared.tree.FieldTree.{FieldTree}
 use Rattle.sled_parser.specs.declared.tree.ItemTree.{ItemTree}
 use Rattle.sled_parser.specs.declared.tree.ItemTree.TheVariants as item
@@ -16,6 +14,8 @@ use Rattle.sled_model.specs.declared.pattern.Pattern.TheVariants.{Empty}
 use Rattle.sled_model.specs.declared.spec.Spec.{Spec}
 use Rattle.tree_meaning.specs.declared.scope.Meaning.{Meaning}
 use Rattle.tree_meaning.specs.declared.scope.Meaning.TheVariants as meaning
+use Rattle.tree_meaning.specs.Names.{are_new}
+use Rattle.tree_meaning.specs.Parts.{labels}
 use Rattle.tree_meaning.specs.Scopes.{Declared}
 use Rattle.tree_meaning.specs.Patterns.{patterns_of}
 
@@ -27,9 +27,13 @@ pub record Described : Type 0 where
 -- the description that declares nothing
 abbrev pub nothing : Described
 nothing = record {
-  spec = record { tokens = record { classes = []; fields = [] }; class_names = []; field_names = []; constructors = [] };
-  declared = record { names = []; meanings = [] };
+  spec = record { tokens = record { classes = []; fields = [] }; class_names = []; field_names = []; type_names = []; constructors = []; constructor_names = [] };
+  declared = record { names = []; meanings = []; local_names = []; local_meanings = [] };
 }
+
+-- condition 1, a label is no declared name. Over `fields of b (8) x 0:7`, `L: x = 1` meets it, `x: x = 1` does not.
+abbrev pub labels_are_new : Declared → PatternTree → Bool
+labels_are_new declared tree = are_new declared.names (labels tree)
 
 -- ---- a class
 
@@ -45,16 +49,14 @@ field_of c f = record { class = record { 0 = c }; lo = number_value f.lo; hi = n
 
 -- one name more, and what it stands for
 abbrev pub with_name : Declared → List ℕ → Meaning → Declared
-with_name declared name meaning = record { names = declared.names ++ name ∷ []; meanings = declared.meanings ++ meaning ∷ [] }
+with_name declared name meaning = record declared { names = declared.names ++ name ∷ []; meanings = declared.meanings ++ meaning ∷ [] }
 
 -- one class more, without its fields
 abbrev pub with_class_alone : Described → List ℕ → List ℕ → Bool → Described
 with_class_alone d name width little = record {
-  spec = record {
+  spec = record d.spec {
     tokens = record { classes = d.spec.tokens.classes ++ class_of width little ∷ []; fields = d.spec.tokens.fields };
     class_names = d.spec.class_names ++ name ∷ [];
-    field_names = d.spec.field_names;
-    constructors = d.spec.constructors;
   };
   declared = with_name d.declared name (meaning.Class (record { 0 = length d.spec.tokens.classes }));
 }
@@ -62,11 +64,9 @@ with_class_alone d name width little = record {
 -- one field more, of class number c
 abbrev pub with_field : ℕ → Described → FieldTree → Described
 with_field c d f = record {
-  spec = record {
+  spec = record d.spec {
     tokens = record { classes = d.spec.tokens.classes; fields = d.spec.tokens.fields ++ field_of c f ∷ [] };
-    class_names = d.spec.class_names;
     field_names = d.spec.field_names ++ f.name ∷ [];
-    constructors = d.spec.constructors;
   };
   declared = with_name d.declared f.name (meaning.Field (record { 0 = length d.spec.tokens.fields }));
 }
@@ -126,20 +126,3 @@ with_patterns declared name (Some items) ps =
 
 abbrev pub with_definition : Described → List ℕ → Option (List ItemTree) → PatternTree → Described
 with_definition d name items tree = record { spec = d.spec; declared = with_patterns d.declared name items (patterns_of d.declared [] tree) }
-
--- ---- one after another
-
--- a description with one declaration more; a heading declares nothing, and constructors do not yet
-abbrev pub after : Described → Decl → Described
-after d (decl.Class name width little fields) = with_class d name width little fields
-after d (decl.Heading section) = d
-after d (decl.Definition name items tree) = with_definition d name items tree
-after d (decl.ConstructorDecl opcode operands result equations body) = d
-
--- what the declarations make
-abbrev pub described : List Decl → Described
-described decls = fold after nothing decls
-
--- the description that the declarations make
-abbrev pub spec_of : List Decl → Spec
-spec_of decls = (described decls).spec

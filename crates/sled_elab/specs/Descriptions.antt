@@ -1,11 +1,14 @@
 -- What holds of a description that lacks nothing so far.
-use Rattle.std.specs.Prelude.{◌≡◌, true, [], length, All}
+use Rattle.std.specs.Prelude.{◌≡◌, ◌<◌, true, [], length, All}
 use Rattle.sled_parser.specs.declared.tree.Decl.{Decl}
 use Rattle.sled_parser.specs.declared.tree.Decl.TheVariants as decl
 use Rattle.sled_parser.specs.declared.tree.ArmTree.{ArmTree}
 use Rattle.sled_parser.specs.declared.tree.ArmsTree.{ArmsTree}
 use Rattle.sled_parser.specs.declared.tree.ArmsTree.TheVariants as arms
+use Rattle.sled_model.specs.declared.spec.Spec.{Spec}
 use Rattle.sled_model.specs.Specs.{IsSpec, names_of}
+use Rattle.tree_meaning.specs.declared.scope.Meaning.{Meaning}
+use Rattle.tree_meaning.specs.declared.scope.Meaning.TheVariants as meaning
 use Rattle.tree_meaning.specs.Names.{is_among, are_distinct}
 use Rattle.tree_meaning.specs.Scopes.{declared_in}
 use Rattle.tree_meaning.specs.Sound.{IsSoundMeaning}
@@ -17,11 +20,18 @@ use Rattle.sled_elab.specs.Declarations.{Described}
 abbrev pub described_in : Description → Described
 described_in d = record { spec = d.spec; declared = declared_in d.scope }
 
--- the description is one that the language admits, without constructors; its names are among those that were declared, each once, and
--- each name stands for something of it
+-- a type that the name stands for was declared
+abbrev pub NamesKnownType : Spec → Meaning → Type 0
+NamesKnownType spec (meaning.Type t) = t.0 < length spec.type_names
+NamesKnownType spec _ = Unit {0}
+
+-- the description is one that the language admits; its names are among those that were declared, each once, and each name stands for
+-- something of it, outside of any constructor's body
 pub record IsSound (d : Described) : Type 0 where
   pub spec : IsSpec d.spec
-  pub plain : d.spec.constructors ≡ []
+  pub types : All (NamesKnownType d.spec) d.declared.meanings
+  pub local_names : d.declared.local_names ≡ []
+  pub local_meanings : d.declared.local_meanings ≡ []
   pub meanings : length d.declared.meanings ≡ length d.declared.names
   pub distinct : are_distinct d.declared.names ≡ true
   pub within : All (λ n. is_among d.declared.names n ≡ true) (names_of d.spec)

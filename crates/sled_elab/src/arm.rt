@@ -18,9 +18,9 @@ ghost use Rattle.tree_meaning.specs.Scopes.{Declared, declared_in};
 
 use crate::action::action_pieces;
 use crate::first::first_of;
+use crate::form::spec_form;
 use crate::lack::{ArmFault, Lack};
 use pattern_normal::{longest, size, weight};
-use pattern_shapes::form_of;
 use sled_base::NoMemory;
 use sled_model::{Arm, Name, NameList, Pattern, PieceList, Spec};
 use sled_parser::tree::{ArmTree, PatternTree};
@@ -124,7 +124,7 @@ fn unmet_forming(
     requires before { before ≤ 16384 }
     ensures { IfOk result (λ unmet. (declared : Declared) → (tree : PatternTreeOf) → IsBindingsOf declared tree bindings.now → unmet ≡ of.first_unmet (of.arm_forming_conditions spec.now declared before tree pattern.now)) }
 {
-    let form = form_of(alloc, &spec.tokens, pattern)?;
+    let form = spec_form(alloc, spec, pattern)?;
     if !form.agree {
         return Ok(Some(6));
     }

@@ -14,7 +14,7 @@ use crate::lack::Lack;
 use sled_base::NoMemory;
 use sled_lexer::{number_in_range, number_value};
 use sled_model::Name;
-use sled_parser::tree::FieldTree;
+use sled_parser::tree::{FieldTree, FieldTreeList, Spelling};
 use std::alloc::Global;
 use token_bits::{Class, ClassId, Field, Order};
 use tree_meaning::{Meaning, Scope, are_declared_once};
@@ -23,23 +23,24 @@ use tree_meaning::{Meaning, Scope, are_declared_once};
 pub fn declare_class<'a>(
     alloc: Global,
     description: &mut Description<'a>,
-    name: &'a [u8],
-    width: &[u8],
+    name: &'a Spelling,
+    width: &Spelling,
     little: bool,
-    fields: &'a [FieldTree],
+    fields: &'a FieldTreeList,
 ) -> Result<Option<Lack>, NoMemory>
     requires { IsSound (described_in description.old) }
     ensures lack { IfOk result (λ lack. lack ≡ of.unmet_lack (of.class_conditions (described_in description.old) name.now width.now fields.now)) }
     ensures made { IfOk result (λ lack. lack ≡ None → described_in description.new ≡ with_class (described_in description.old) name.now width.now little fields.now) }
     ensures sound { IfOk result (λ lack. lack ≡ None → IsSound (described_in description.new)) }
 {
+    let (name, fields) = (name.as_slice(), fields.as_slice());
     if !declares_once(alloc, &description.scope, name, fields)? {
         return Ok(Some(Lack::Condition(1)));
     }
-    if !has_widths(width, fields) {
+    if !has_widths(width.as_slice(), fields) {
         return Ok(Some(Lack::Condition(3)));
     }
-    add_class(alloc, description, name, width, little, fields)?;
+    add_class(alloc, description, name, width.as_slice(), little, fields)?;
     Ok(None)
 }
 

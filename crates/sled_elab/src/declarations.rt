@@ -1,8 +1,8 @@
 // What declarations make, one after another.
 ghost use Rattle.std.specs.Prelude.{◌≡◌, ◌<◌, ◌^◌, All, None, IfOk, IfErr};
-ghost use Rattle.sled_elab.specs.Declarations.{described, spec_of, after};
 ghost use Rattle.sled_elab.specs.Conditions.{decl_lack, description_lack, next_number as next_number_of};
 ghost use Rattle.sled_elab.specs.Descriptions.{described_in, HasNumbersInRange, IsSound};
+ghost use Rattle.sled_elab.specs.Elaboration.{after, described, spec_of};
 ghost use Rattle.sled_elab.specs.Refusals.{IsRefusedAt};
 ghost use Rattle.tree_meaning.specs.Scopes.{declared_in};
 
@@ -91,14 +91,7 @@ fn declare<'a>(
             width,
             little,
             fields,
-        } => declare_class(
-            alloc,
-            description,
-            name.as_slice(),
-            width.as_slice(),
-            *little,
-            fields.as_slice(),
-        ),
+        } => declare_class(alloc, description, name, width, *little, fields),
         Decl::Definition {
             name,
             items,

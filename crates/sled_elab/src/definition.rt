@@ -1,9 +1,10 @@
 // A named pattern, or a group of them.
-ghost use Rattle.std.specs.Prelude.{◌≡◌, ◌&&◌, ◌==◌, ◌++◌, ◌∷◌, [], Some, None, true, false, not, map, length, List, IfOk, OnOk, IfSome};
+ghost use Rattle.std.specs.Prelude.{◌≡◌, ◌&&◌, ◌==◌, ◌++◌, ◌∷◌, [], Some, None, true, false, not, map, length, List, All, IfOk, OnOk, IfSome};
 ghost use Rattle.std.specs.List.{list_all, list_any};
 ghost use Rattle.sled_elab.specs.Conditions as of;
 ghost use Rattle.sled_elab.specs.Declarations as make;
 ghost use Rattle.sled_elab.specs.Descriptions.{described_in, IsSound};
+ghost use Rattle.sled_model.specs.Leaves.{AllLeaves, NamesNoConstructor};
 ghost use Rattle.sled_model.specs.Shapes as shape;
 ghost use Rattle.tree_meaning.specs.Bindings.{are_none};
 ghost use Rattle.tree_meaning.specs.Names.{is_among};
@@ -15,10 +16,10 @@ ghost use Rattle.tree_meaning.specs.Sound.{IsSoundMeaning};
 
 use crate::description::Description;
 use crate::first::first_of;
+use crate::form::spec_form;
 use crate::lack::Lack;
-use pattern_shapes::form_of;
 use sled_base::NoMemory;
-use sled_model::{Pattern, PatternList};
+use sled_model::{Pattern, PatternList, Spec};
 use sled_parser::tree::{ItemTree, ItemTreeList, PatternTree};
 use std::alloc::Global;
 use token_bits::Tokens;
@@ -92,7 +93,7 @@ fn first_unmet_naming(once: bool, labels: bool, known: bool, fit: bool, listed: 
 
 fn have_new_labels(scope: &Scope<'_>, tree: &PatternTree, parts: &[&PatternTree]) -> bool
     requires { map (λ x. x.now) parts.now ≡ parts_in tree.now }
-    ensures { result ≡ of.labels_are_new (declared_in scope.now) tree.now }
+    ensures { result ≡ make.labels_are_new (declared_in scope.now) tree.now }
 {
     labels_are_new(scope, parts)
 }
@@ -219,9 +220,10 @@ fn unmet_forming(
     tree: &PatternTree,
     patterns: &[Pattern],
 ) -> Result<Option<u8>, NoMemory>
+    requires { All (AllLeaves NamesNoConstructor) patterns.now }
     ensures { IfOk result (λ unmet. unmet ≡ of.first_unmet (of.forming_conditions (described_in description.now) tree.now patterns.now)) }
 {
-    let forms = forms_of(alloc, &description.spec.tokens, patterns)?;
+    let forms = forms_of(alloc, &description.spec, patterns)?;
     let bindings = bindings_of(alloc, &description.scope, tree)?;
     if !forms.agree {
         return Ok(Some(6));
@@ -238,10 +240,11 @@ fn unmet_forming(
     Ok(None)
 }
 
-fn forms_of(alloc: Global, tokens: &Tokens, patterns: &[Pattern]) -> Result<Forms, NoMemory>
-    ensures agree { IfOk result (λ forms. forms.agree ≡ list_all (shape.conjunctions_agree tokens.now) patterns.now) }
-    ensures closed { IfOk result (λ forms. forms.closed ≡ list_all (shape.chains_are_closed tokens.now) patterns.now) }
-    ensures alike { IfOk result (λ forms. forms.alike ≡ list_all (shape.sides_have_one_shape tokens.now) patterns.now) }
+fn forms_of(alloc: Global, spec: &Spec, patterns: &[Pattern]) -> Result<Forms, NoMemory>
+    requires { All (AllLeaves NamesNoConstructor) patterns.now }
+    ensures agree { IfOk result (λ forms. forms.agree ≡ list_all (shape.conjunctions_agree (shape.spec_shapes spec.now)) patterns.now) }
+    ensures closed { IfOk result (λ forms. forms.closed ≡ list_all (shape.chains_are_closed (shape.spec_shapes spec.now)) patterns.now) }
+    ensures alike { IfOk result (λ forms. forms.alike ≡ list_all (shape.sides_have_one_shape (shape.spec_shapes spec.now)) patterns.now) }
 {
     let mut forms = Forms {
         agree: true,
@@ -249,7 +252,7 @@ fn forms_of(alloc: Global, tokens: &Tokens, patterns: &[Pattern]) -> Result<Form
         alike: true,
     };
     for pattern in patterns {
-        let form = form_of(alloc, tokens, pattern)?;
+        let form = spec_form(alloc, spec, pattern)?;
         forms.agree = forms.agree && form.agree;
         forms.closed = forms.closed && form.closed;
         forms.alike = forms.alike && form.alike;

@@ -11,6 +11,7 @@ mod declarations;
 mod definition;
 mod description;
 mod first;
+mod form;
 mod lack;
 mod statement;
 #[cfg(test)]

@@ -27,5 +27,3 @@ module _ (cx : Context) (bytes : List ℕ) (i : ℕ) where
   pub results-Label : (l : ℕ) (p : Pattern) → results cx (Label l p) bytes i ≡ label_meaning l (results cx p) bytes i
   unfolding hidden-the_row-Pattern-0 hidden
   results-Label l p = refl
-
-pub ruleset results_laws = (results-Both, results-Either, results-Chain, results-Loose, results-Label)

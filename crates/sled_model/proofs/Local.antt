@@ -204,21 +204,21 @@ choices-local k (c ∷ cs) t hs bytes i n le =
     by_type true = mapped-local c.body (λ j. choice_match k []) (λ j a. refl) (All-head (λ (d : Known). IsLocal d.body) c cs hs) bytes i n le
     by_type false = refl
 
-kind-local : (known : List Known) (kind : OperandKind) → AreLocal known → IsLocal (kind_results known kind)
+pub kind-local : (known : List Known) (kind : OperandKind) → AreLocal known → IsLocal (kind_results known kind)
 kind-local known (Plain f) hs bytes i n le = refl
 kind-local known (Extended f) hs bytes i n le = refl
 kind-local known (Typed t) hs bytes i n le = choices-local 0 known t hs bytes i n le
 kind-local known Whole hs bytes i n le = refl
 kind-local known Sliced hs bytes i n le = refl
 
-operand-local : (cx : Context) (k : ℕ) → AreLocal cx.known → IsLocal (operand_results cx k)
+pub operand-local : (cx : Context) (k : ℕ) → AreLocal cx.known → IsLocal (operand_results cx k)
 operand-local cx k hs bytes i n le = by_kind (slice_get cx.operands k)
   where
     by_kind : (o : Option OperandKind) → results_from o (λ kind. kind_results cx.known kind (take n bytes) i) ≡ filter (ends_within i n) (results_from o (λ kind. kind_results cx.known kind bytes i))
     by_kind None = refl
     by_kind (Some kind) = kind-local cx.known kind hs bytes i n le
 
-application-local : (known : List Known) (k : ℕ) (arguments : List Argument) (admitted : List RawEntry → Bool) → AreLocal known → IsLocal (application_results known k arguments admitted)
+pub application-local : (known : List Known) (k : ℕ) (arguments : List Argument) (admitted : List RawEntry → Bool) → AreLocal known → IsLocal (application_results known k arguments admitted)
 application-local known k arguments admitted hs bytes i n le = by_known (slice_get known k) refl
   where
     by_known : (o : Option Known) → slice_get known k ≡ o
@@ -253,7 +253,7 @@ mutual
   row-local cx hs end_of-Pattern = All-nil IsLocal
   row-local cx hs (more_of-Pattern p ps) = All-cons IsLocal (results cx p) (row_meanings cx ps) (results-local cx hs p) (row-local cx hs ps)
 
-known-local : (tokens : Tokens) (known : List Known) (cs : List Constructor) → AreLocal known → AreLocal (known_from tokens known cs)
+pub known-local : (tokens : Tokens) (known : List Known) (cs : List Constructor) → AreLocal known → AreLocal (known_from tokens known cs)
 known-local tokens known [] hs = hs
 known-local tokens known (c ∷ cs) hs =
     let k : Known = record { constructor = c; body = results (record { tokens = tokens; operands = c.operands; known = known }) c.body } in

@@ -57,10 +57,14 @@ same_shape_self a = and_from (are_same_classes a.classes a.classes) (are_same_bo
 
 -- ---- lists with the same members
 
+-- each of the one list is in the other
+abbrev pub AreAmong : List Shape → List Shape → Type 0
+AreAmong ss ts = (a : Shape) → Contains ss a → Contains ts a
+
 abbrev pub Same : List Shape → List Shape → Type 0
 Same ss ts = (a : Shape) → Contains ss a ↔ Contains ts a
 
-list_all-within : (p : Shape → Bool) (ss ts : List Shape) → ((a : Shape) → Contains ts a → Contains ss a) → list_all p ss ≡ true → list_all p ts ≡ true
+pub list_all-within : (p : Shape → Bool) (ss ts : List Shape) → AreAmong ts ss → list_all p ss ≡ true → list_all p ts ≡ true
 list_all-within p ss ts within h = list_all_from_members p ts (λ a m. list_all_at_member p ss a h (within a m))
 
 pub list_all-same : (p : Shape → Bool) (ss ts : List Shape) → Same ss ts → list_all p ss ≡ list_all p ts
@@ -97,7 +101,7 @@ one_shape_from_members [] h = refl
 one_shape_from_members (s ∷ ss) h = list_all_from_members (is_same_shape s) ss
     (λ a m. subst (λ b. is_same_shape s b ≡ true) (h s a (Contains-here s ss) (Contains-there s ss a m)) (same_shape_self s))
 
-one_shape-within : (ss ts : List Shape) → ((a : Shape) → Contains ts a → Contains ss a) → are_one_shape ss ≡ true → are_one_shape ts ≡ true
+pub one_shape-within : (ss ts : List Shape) → AreAmong ts ss → are_one_shape ss ≡ true → are_one_shape ts ≡ true
 one_shape-within ss ts within h = one_shape_from_members ts (λ a b m n. one_shape_members ss a b h (within a m) (within b n))
 
 pub are_one_shape-same : (ss ts : List Shape) → Same ss ts → are_one_shape ss ≡ are_one_shape ts
@@ -106,8 +110,7 @@ are_one_shape-same ss ts same = same_bool (are_one_shape ss) (are_one_shape ts)
 
 -- ---- products of lists with the same members
 
-each_with-within : (op : Shape → Shape → Shape) (ss ts us vs : List Shape) → ((a : Shape) → Contains ss a → Contains ts a) → ((a : Shape) → Contains us a → Contains vs a)
-    → (s : Shape) → Contains (each_with op ss us) s → Contains (each_with op ts vs) s
+pub each_with-within : (op : Shape → Shape → Shape) (ss ts us vs : List Shape) → AreAmong ss ts → AreAmong us vs → AreAmong (each_with op ss us) (each_with op ts vs)
 each_with-within op ss ts us vs first second s h =
     let found = Contains-each_with_cases op ss us s h in
     subst (λ z. Contains (each_with op ts vs) z) found.4 (Contains-each_with op ts vs found.0 found.1 (first found.0 found.2) (second found.1 found.3))

@@ -1,4 +1,4 @@
--- The length of a pattern without constructors is that of one of its shapes, where its conjunctions agree.
+-- The length of a pattern that names no constructor is that of one of its shapes, where its conjunctions agree.
 use Rattle.std.proofs.Common.{◌≡◌, ◌⊎◌, inl, inr, ℕ, ◌+◌, ◌<◌, ◌≤◌, max, true, false, ◌&&◌, leb, List, [], ◌∷◌, ◌++◌, length, map, All, Contains, Option, Some, None, IsSome, sym, subst, arith}
 use Rattle.std.specs.List.{flat_map, fold, sum, AllZip, slice_get, list_all}
 use Rattle.std.specs.Option.{option_map_or, option_and_then}
@@ -7,8 +7,9 @@ use Rattle.std.proofs.lemmas.List.{append_assoc}
 use Rattle.std.proofs.lemmas.List.Elements.{All-head, All-tail, Contains-append_left, Contains-append_right}
 use Rattle.token_bits.specs.declared.tokens.ClassId.{ClassId}
 use Rattle.token_bits.specs.declared.tokens.Field.{Field}
+use Rattle.token_bits.specs.declared.tokens.FieldId.{FieldId}
 use Rattle.token_bits.specs.declared.tokens.Tokens.{Tokens}
-use Rattle.token_bits.specs.Tokens.{byte_count}
+use Rattle.token_bits.specs.Tokens.{byte_count, token_len}
 use Rattle.sled_model.specs.declared.shape.Shape.{Shape}
 use Rattle.sled_model.specs.declared.spec.Spec.{Spec}
 use Rattle.sled_model.specs.declared.pattern.Pattern.{Pattern, Row_of-Pattern, end_of-Pattern, more_of-Pattern, items-the_row-Pattern, items_hidden-the_row-Pattern-1}
@@ -17,7 +18,7 @@ use Rattle.sled_model.specs.declared.pattern.Argument.TheBlock.{hidden-the_row-P
 use denote.Hole.Carrier.{hidden}
 use Rattle.sled_model.specs.Leaves.{AllLeaves, AllLeavesOfRow, NamesNoConstructor, NamesKnownField, IsFilledRow, HasFilledLists, RowHasFilledLists}
 use Rattle.sled_model.specs.Measures.{Measured, longest, row_lens, boxed_number, greatest, pattern_len, each_from, measured}
-use Rattle.sled_model.specs.Shapes.{shapes, row_shapes, rigid, loose_shape, chain_shape, both_shape, each_with, fold_shapes, boxed_shapes, shapes_agree, all_agree, sides_agree, members_agree, conjunctions_agree, row_agrees, class_bytes, shape_bytes, lengths_within}
+use Rattle.sled_model.specs.Shapes.{ShapeContext, shapes, row_shapes, rigid, field_shapes, loose_shape, chain_shape, both_shape, each_with, fold_shapes, boxed_shapes, shapes_agree, all_agree, sides_agree, members_agree, conjunctions_agree, row_agrees, class_bytes, shape_bytes, lengths_within}
 use Rattle.sled_model.proofs.Members.{Contains-here, Contains-map, list_all_at_member}
 use Rattle.sled_model.proofs.ShapeLemmas.{Contains-each_with}
 use Rattle.sled_model.proofs.ShapeResults.{bytes_of, bytes_of-cons, bytes_of-append, nested_marks, longer}
@@ -103,57 +104,60 @@ module _ (tokens : Tokens) where
 
   -- ---- patterns
 
-  module _ (known : List Measured) (operands : ℕ → ℕ) where
+  module _ (known : List Measured) (operands : ℕ → ℕ) (cx : ShapeContext) (same : cx.tokens ≡ tokens) where
+    known_field : (f : FieldId) → IsSome (slice_get tokens.fields f.0) → Reaches tokens (token_len tokens f) (field_shapes cx.tokens f)
+    known_field f field = subst (λ t. Reaches tokens (token_len tokens f) (field_shapes t f)) (sym same) (reaches_field (slice_get tokens.fields f.0) field)
+
     mutual
       -- one of the shapes is as long as the pattern
-      pub longest_reached : (p : Pattern) → AllLeaves NamesNoConstructor p → AllLeaves (NamesKnownField tokens) p → HasFilledLists p → conjunctions_agree tokens p ≡ true
-          → Reaches tokens (longest tokens known operands p) (shapes tokens p)
+      pub longest_reached : (p : Pattern) → AllLeaves NamesNoConstructor p → AllLeaves (NamesKnownField tokens) p → HasFilledLists p → conjunctions_agree cx p ≡ true
+          → Reaches tokens (longest tokens known operands p) (shapes cx p)
       longest_reached (Token c) plain field filled agree = reaches_class c
-      longest_reached (Limit f relation limit) plain field filled agree = reaches_field (slice_get tokens.fields f.0) field
-      longest_reached (Bind f) plain field filled agree = reaches_field (slice_get tokens.fields f.0) field
+      longest_reached (Limit f relation limit) plain field filled agree = known_field f field
+      longest_reached (Bind f) plain field filled agree = known_field f field
       longest_reached (Operand k) plain field filled agree = absurd plain
       longest_reached (Label' l s p) plain field filled agree = boxed p filled.0 (row_reached p plain field filled.1 agree)
       longest_reached (Both' s ps) plain field filled agree =
-          let parts = and_parts (row_agrees tokens ps) (members_agree (row_shapes tokens ps)) agree in
+          let parts = and_parts (row_agrees cx ps) (members_agree (row_shapes cx ps)) agree in
           boths ps filled.0 (row_reached ps plain field filled.1 parts.0) parts.1
       longest_reached (Either' s ps) plain field filled agree = eithers ps filled.0 (row_reached ps plain field filled.1 agree)
       longest_reached (Chain' s ps) plain field filled agree = chains ps filled.0 (row_reached ps plain field filled.1 agree)
       longest_reached (Loose' s p) plain field filled agree =
-          loosened (boxed_number (row_lens tokens known operands p)) (boxed_shapes (row_shapes tokens p)) (boxed p filled.0 (row_reached p plain field filled.1 agree))
+          loosened (boxed_number (row_lens tokens known operands p)) (boxed_shapes (row_shapes cx p)) (boxed p filled.0 (row_reached p plain field filled.1 agree))
       longest_reached (Apply' k s arguments) plain field filled agree = absurd plain
       longest_reached Empty plain field filled agree = reaches_rigid 0 [] (omega arith)
 
-      row_reached : {n : _} (ps : Row_of-Pattern n) → AllLeavesOfRow NamesNoConstructor ps → AllLeavesOfRow (NamesKnownField tokens) ps → RowHasFilledLists ps → row_agrees tokens ps ≡ true
-          → EachReaches tokens (row_lens tokens known operands ps) (row_shapes tokens ps)
+      row_reached : {n : _} (ps : Row_of-Pattern n) → AllLeavesOfRow NamesNoConstructor ps → AllLeavesOfRow (NamesKnownField tokens) ps → RowHasFilledLists ps → row_agrees cx ps ≡ true
+          → EachReaches tokens (row_lens tokens known operands ps) (row_shapes cx ps)
       row_reached end_of-Pattern plain field filled agree = tt
       row_reached (more_of-Pattern p ps) plain field filled agree =
-          let parts = and_parts (conjunctions_agree tokens p) (row_agrees tokens ps) agree in
+          let parts = and_parts (conjunctions_agree cx p) (row_agrees cx ps) agree in
           (longest_reached p plain.0 field.0 filled.0 parts.0, row_reached ps plain.1 field.1 filled.1 parts.1)
 
-      boxed : {n : _} (ps : Row_of-Pattern n) → IsFilledRow ps → EachReaches tokens (row_lens tokens known operands ps) (row_shapes tokens ps)
-          → Reaches tokens (boxed_number (row_lens tokens known operands ps)) (boxed_shapes (row_shapes tokens ps))
+      boxed : {n : _} (ps : Row_of-Pattern n) → IsFilledRow ps → EachReaches tokens (row_lens tokens known operands ps) (row_shapes cx ps)
+          → Reaches tokens (boxed_number (row_lens tokens known operands ps)) (boxed_shapes (row_shapes cx ps))
       boxed end_of-Pattern filled h = absurd filled
       boxed (more_of-Pattern p ps) filled h = h.0
 
-      boths : {n : _} (ps : Row_of-Pattern n) → IsFilledRow ps → EachReaches tokens (row_lens tokens known operands ps) (row_shapes tokens ps) → members_agree (row_shapes tokens ps) ≡ true
-          → Reaches tokens (greatest (row_lens tokens known operands ps)) (fold_shapes both_shape (row_shapes tokens ps))
+      boths : {n : _} (ps : Row_of-Pattern n) → IsFilledRow ps → EachReaches tokens (row_lens tokens known operands ps) (row_shapes cx ps) → members_agree (row_shapes cx ps) ≡ true
+          → Reaches tokens (greatest (row_lens tokens known operands ps)) (fold_shapes both_shape (row_shapes cx ps))
       boths end_of-Pattern filled h agree = absurd filled
       boths (more_of-Pattern p ps) filled h agree =
-          boths_from (max 0 (longest tokens known operands p)) (shapes tokens p) (row_lens tokens known operands ps) (row_shapes tokens ps)
+          boths_from (max 0 (longest tokens known operands p)) (shapes cx p) (row_lens tokens known operands ps) (row_shapes cx ps)
           (record { shape = h.0.shape; member = h.0.member; bytes = omega (arith, h.0.bytes) }) h.1 agree
 
-      eithers : {n : _} (ps : Row_of-Pattern n) → IsFilledRow ps → EachReaches tokens (row_lens tokens known operands ps) (row_shapes tokens ps)
-          → Reaches tokens (greatest (row_lens tokens known operands ps)) (flat_map (λ ss. ss) (row_shapes tokens ps))
+      eithers : {n : _} (ps : Row_of-Pattern n) → IsFilledRow ps → EachReaches tokens (row_lens tokens known operands ps) (row_shapes cx ps)
+          → Reaches tokens (greatest (row_lens tokens known operands ps)) (flat_map (λ ss. ss) (row_shapes cx ps))
       eithers end_of-Pattern filled h = absurd filled
       eithers (more_of-Pattern p ps) filled h =
-          eithers_from (max 0 (longest tokens known operands p)) (shapes tokens p) (row_lens tokens known operands ps) (row_shapes tokens ps)
+          eithers_from (max 0 (longest tokens known operands p)) (shapes cx p) (row_lens tokens known operands ps) (row_shapes cx ps)
           (record { shape = h.0.shape; member = h.0.member; bytes = omega (arith, h.0.bytes) }) h.1
 
-      chains : {n : _} (ps : Row_of-Pattern n) → IsFilledRow ps → EachReaches tokens (row_lens tokens known operands ps) (row_shapes tokens ps)
-          → Reaches tokens (sum (row_lens tokens known operands ps)) (fold_shapes chain_shape (row_shapes tokens ps))
+      chains : {n : _} (ps : Row_of-Pattern n) → IsFilledRow ps → EachReaches tokens (row_lens tokens known operands ps) (row_shapes cx ps)
+          → Reaches tokens (sum (row_lens tokens known operands ps)) (fold_shapes chain_shape (row_shapes cx ps))
       chains end_of-Pattern filled h = absurd filled
       chains (more_of-Pattern p ps) filled h =
-          chains_from (0 + longest tokens known operands p) (shapes tokens p) (row_lens tokens known operands ps) (row_shapes tokens ps)
+          chains_from (0 + longest tokens known operands p) (shapes cx p) (row_lens tokens known operands ps) (row_shapes cx ps)
           (record { shape = h.0.shape; member = h.0.member; bytes = omega (arith, h.0.bytes) }) h.1
 
 -- ---- lists that are filled
@@ -193,10 +197,10 @@ module _ (p : Pattern) (h : HasFilledLists p) where
 -- ---- the bound
 
 -- so the pattern is no longer than the longest that its shapes may be
-pub len_within : (spec : Spec) (p : Pattern) (least most : ℕ) → AllLeaves NamesNoConstructor p → AllLeaves (NamesKnownField spec.tokens) p → HasFilledLists p
-    → conjunctions_agree spec.tokens p ≡ true → lengths_within least most spec.tokens (shapes spec.tokens p) ≡ true → pattern_len spec p ≤ most
-len_within spec p least most plain field filled agree within =
-    let h = longest_reached spec.tokens (each_from (measured spec.tokens) [] spec.constructors) (λ k. 0) p plain field filled agree in
-    let test = list_all_at_member (λ (s : Shape). leb least (shape_bytes spec.tokens s) && leb (shape_bytes spec.tokens s) most) (shapes spec.tokens p) h.shape within h.member in
+pub len_within : (spec : Spec) (cx : ShapeContext) (p : Pattern) (least most : ℕ) → cx.tokens ≡ spec.tokens → AllLeaves NamesNoConstructor p → AllLeaves (NamesKnownField spec.tokens) p
+    → HasFilledLists p → conjunctions_agree cx p ≡ true → lengths_within least most spec.tokens (shapes cx p) ≡ true → pattern_len spec p ≤ most
+len_within spec cx p least most same plain field filled agree within =
+    let h = longest_reached spec.tokens (each_from (measured spec.tokens) [] spec.constructors) (λ k. 0) cx same p plain field filled agree in
+    let test = list_all_at_member (λ (s : Shape). leb least (shape_bytes spec.tokens s) && leb (shape_bytes spec.tokens s) most) (shapes cx p) h.shape within h.member in
     let parts = and_parts (leb least (shape_bytes spec.tokens h.shape)) (leb (shape_bytes spec.tokens h.shape) most) test in
     omega (arith, h.bytes, leb-true (shape_bytes spec.tokens h.shape) most parts.1)

@@ -1,4 +1,4 @@
--- The results of a pattern without constructors have the lengths of its shapes, where its conjunctions agree.
+-- The results of a pattern have the lengths of its shapes, where those of its leaves do and its conjunctions agree.
 use Rattle.std.proofs.Common.{◌≡◌, ◌⊎◌, inl, inr, ⊎_elim, ℕ, ◌+◌, ◌<◌, ◌≤◌, max, Bool, true, false, ◌&&◌, ◌||◌, cond, eqb, ltb, leb, List, [], ◌∷◌, ◌++◌, length, map, filter, Contains, Option, Some, None, refl, sym, ap, ◌∙◌, subst, arith}
 use Rattle.std.specs.List.{flat_map, list_all, fold, sum, AllZip, slice_get}
 use Rattle.std.specs.Option.{option_map_or, option_and_then}
@@ -12,17 +12,17 @@ use Rattle.token_bits.specs.declared.tokens.Tokens.{Tokens}
 use Rattle.sled_model.specs.declared.raw.Match.{Match}
 use Rattle.sled_model.specs.declared.raw.RawEntry.{RawEntry}
 use Rattle.sled_model.specs.declared.shape.Shape.{Shape}
-use Rattle.sled_model.specs.declared.constructor.OperandKind.{OperandKind}
-use Rattle.sled_model.specs.declared.constructor.OperandKind.TheVariants.{Typed}
 use Rattle.sled_model.specs.declared.pattern.Relation.{Relation}
 use Rattle.sled_model.specs.declared.pattern.Pattern.{Pattern, Row_of-Pattern, end_of-Pattern, more_of-Pattern}
 use Rattle.sled_model.specs.declared.pattern.Pattern.TheVariants.{Token, Limit, Bind, Operand, Label', Both', Either', Chain', Loose', Apply', Empty}
 use Rattle.token_bits.specs.Tokens.{byte_count, token, token_len, value_at}
-use Rattle.sled_model.specs.Results.{Context, Meaning, results, row_meanings, results_from, one_match, class_results, limit_results, bind_results, kind_results, has_relation, both, both_match, agrees, chain, chain_match, either, fold_meanings, boxed_meaning, loose_match, label_match}
-use Rattle.sled_model.specs.Shapes.{shapes, are_closed, row_shapes, rigid, field_shapes, loose_shape, chain_shape, both_shape, each_with, fold_shapes, boxed_shapes, is_front, are_same_classes, shapes_agree, all_agree, sides_agree, members_agree, conjunctions_agree, row_agrees, class_bytes, shape_bytes, lengths_within}
+use Rattle.sled_model.specs.Results.{Context, Meaning, results, row_meanings, results_from, one_match, class_results, limit_results, bind_results, has_relation, both, both_match, agrees, chain, chain_match, either, fold_meanings, boxed_meaning, loose_match, label_match}
+use Rattle.sled_model.specs.Shapes.{ShapeContext, shapes, are_closed, row_shapes, rigid, field_shapes, loose_shape, chain_shape, both_shape, each_with, fold_shapes, boxed_shapes, is_front, are_same_classes, shapes_agree, all_agree, sides_agree, members_agree, conjunctions_agree, row_agrees, class_bytes, shape_bytes, lengths_within}
 use Rattle.sled_model.proofs.Members.{Contains-nil, Contains-here, Contains-cons_cases, Contains-map, Contains-map_cases, Contains-flat_map_cases, Contains-filter_cases, list_all_at_member}
 use Rattle.std.proofs.lemmas.List.{append_assoc}
+use Rattle.sled_model.specs.Leaves.{AllLeaves, AllLeavesOfRow, NamesNoConstructor}
 use Rattle.sled_model.proofs.ShapeLemmas.{Contains-each_with, same_classes_equal}
+use Rattle.sled_model.proofs.ShapeContexts.{IsLeaf, AllLeaves-weaker}
 
 -- ---- the bytes of classes
 
@@ -97,6 +97,10 @@ longer tokens cs ds nested = by_order nested (cases_lt (length cs) (length ds))
     by_order (inr front) (inl less) = let fewer = (shorter_front tokens ds cs front).fewer in absurd (omega arith)
     by_order (inr front) (inr more) = let below = (shorter_front tokens ds cs front).bytes in let e = first more in omega arith
 
+not_loose : (b : Bool) → cond b false true ≡ true → b ≡ false
+not_loose true h = sym h
+not_loose false h = refl
+
 -- ---- results and shapes
 
 -- the result has the length and the mark of one of the shapes
@@ -114,10 +118,10 @@ AreShaped tokens found ss = (a : Match) → Contains found a → HasShape tokens
 abbrev pub IsShaped : Tokens → Meaning → List Shape → Type 0
 IsShaped tokens m ss = (bytes : List ℕ) (i : ℕ) → AreShaped tokens (m bytes i) ss
 
-HasShape-at : (tokens : Tokens) (ss : List Shape) (a b : Match) → a ≡ b → HasShape tokens ss a → HasShape tokens ss b
+pub HasShape-at : (tokens : Tokens) (ss : List Shape) (a b : Match) → a ≡ b → HasShape tokens ss a → HasShape tokens ss b
 HasShape-at tokens ss a b e h = subst (HasShape tokens ss) e h
 
-shaped_none : (tokens : Tokens) (found : List Match) (ss : List Shape) → found ≡ [] → AreShaped tokens found ss
+pub shaped_none : (tokens : Tokens) (found : List Match) (ss : List Shape) → found ≡ [] → AreShaped tokens found ss
 shaped_none tokens found ss e a m = absurd (Contains-nil a (subst (λ xs. Contains xs a) e m))
 
 shaped_one : (tokens : Tokens) (binds : List RawEntry) (len : ℕ) (cs : List ClassId) → len ≡ bytes_of tokens cs → AreShaped tokens (one_match binds len) (rigid cs)
@@ -127,7 +131,7 @@ shaped_one tokens binds len cs e a m = ⊎_elim
     (λ none. absurd (Contains-nil a none))
     (Contains-cons_cases (record { binds = binds; len = len; loose = false }) [] a m)
 
-shaped_from : {A : Type 0} (tokens : Tokens) (ss : List Shape) (o : Option A) (f : A → List Match) → ((x : A) → o ≡ Some x → AreShaped tokens (f x) ss) → AreShaped tokens (results_from o f) ss
+pub shaped_from : {A : Type 0} (tokens : Tokens) (ss : List Shape) (o : Option A) (f : A → List Match) → ((x : A) → o ≡ Some x → AreShaped tokens (f x) ss) → AreShaped tokens (results_from o f) ss
 shaped_from tokens ss None f h = shaped_none tokens [] ss refl
 shaped_from tokens ss (Some x) f h = h x refl
 
@@ -183,20 +187,22 @@ shaped_each tokens g op len bytes loose found ss h b m =
       loose = loose from.0 a.shape a.loose;
     })
 
+pub HasShape-chain : (tokens : Tokens) (ss ts : List Shape) (a b : Match) → HasShape tokens ss a → HasShape tokens ts b → HasShape tokens (each_with chain_shape ss ts) (chain_match a b)
+HasShape-chain tokens ss ts a b first second =
+    let both_bytes = bytes_of-append tokens first.shape.classes second.shape.classes in
+    let one = first.len in let other = second.len in record {
+      shape = chain_shape first.shape second.shape;
+      member = Contains-each_with chain_shape ss ts first.shape second.shape first.member second.member;
+      len = omega arith;
+      loose = second.loose;
+    }
+
 shaped_chain : (tokens : Tokens) (m n : Meaning) (ss ts : List Shape) → IsShaped tokens m ss → IsShaped tokens n ts → IsShaped tokens (chain m n) (each_with chain_shape ss ts)
 shaped_chain tokens m n ss ts first second bytes i x h =
     let from = Contains-flat_map_cases (λ (a : Match). map (chain_match a) (n bytes (i + a.len))) (m bytes i) x h in
     let at = Contains-map_cases (chain_match from.0) (n bytes (i + from.0.len)) x from.2 in
-    let a = first bytes i from.0 from.1 in
-    let b = second bytes (i + from.0.len) at.0 at.1 in
-    let both_bytes = bytes_of-append tokens a.shape.classes b.shape.classes in
-    let one = a.len in let other = b.len in
-    HasShape-at tokens (each_with chain_shape ss ts) (chain_match from.0 at.0) x at.2 (record {
-      shape = chain_shape a.shape b.shape;
-      member = Contains-each_with chain_shape ss ts a.shape b.shape a.member b.member;
-      len = omega arith;
-      loose = b.loose;
-    })
+    HasShape-at tokens (each_with chain_shape ss ts) (chain_match from.0 at.0) x at.2
+    (HasShape-chain tokens ss ts from.0 at.0 (first bytes i from.0 from.1) (second bytes (i + from.0.len) at.0 at.1))
 
 same_marks : (l l' m m' : Bool) → l ≡ l' → m ≡ m' → (l && m) ≡ (l' && m')
 same_marks l l' m m' e f = ap (λ x. x && m) e ∙ ap (λ x. l' && x) f
@@ -204,21 +210,26 @@ same_marks l l' m m' e f = ap (λ x. x && m) e ∙ ap (λ x. l' && x) f
 longer_of : (k k' n n' r : ℕ) → k ≡ k' → n ≡ n' → max k' n' ≡ r → max k n ≡ r
 longer_of k k' n n' r e f g = ap (λ x. max x n) e ∙ ap (λ x. max k' x) f ∙ g
 
+pub HasShape-both : (tokens : Tokens) (ss ts : List Shape) (a b : Match) → all_agree ss ts ≡ true → HasShape tokens ss a → HasShape tokens ts b
+    → HasShape tokens (each_with both_shape ss ts) (both_match a b)
+HasShape-both tokens ss ts a b agree first second =
+    let one = first.shape in let other = second.shape in
+    let agreed = list_all_at_member (shapes_agree one) ts other (list_all_at_member (λ s. list_all (shapes_agree s) ts) ss one agree first.member) second.member in
+    let longest = both_shape one other in
+    let nested = nested_marks one.loose other.loose one.classes other.classes agreed in record {
+      shape = longest;
+      member = Contains-each_with both_shape ss ts one other first.member second.member;
+      len = longer_of a.len (shape_bytes tokens one) b.len (shape_bytes tokens other) (shape_bytes tokens longest) first.len second.len (longer tokens one.classes other.classes nested);
+      loose = same_marks a.loose one.loose b.loose other.loose first.loose second.loose;
+    }
+
 shaped_both : (tokens : Tokens) (m n : Meaning) (ss ts : List Shape) → IsShaped tokens m ss → IsShaped tokens n ts → all_agree ss ts ≡ true
     → IsShaped tokens (both m n) (each_with both_shape ss ts)
 shaped_both tokens m n ss ts first second agree bytes i x h =
     let from = Contains-flat_map_cases (λ (a : Match). map (both_match a) (filter (agrees a) (n bytes i))) (m bytes i) x h in
     let at = Contains-map_cases (both_match from.0) (filter (agrees from.0) (n bytes i)) x from.2 in
-    let a = first bytes i from.0 from.1 in
-    let b = second bytes i at.0 (Contains-filter_cases (agrees from.0) (n bytes i) at.0 at.1).0 in
-    let agreed = list_all_at_member (shapes_agree a.shape) ts b.shape (list_all_at_member (λ s. list_all (shapes_agree s) ts) ss a.shape agree a.member) b.member in
-    let nested = nested_marks a.shape.loose b.shape.loose a.shape.classes b.shape.classes agreed in
-    HasShape-at tokens (each_with both_shape ss ts) (both_match from.0 at.0) x at.2 (record {
-      shape = both_shape a.shape b.shape;
-      member = Contains-each_with both_shape ss ts a.shape b.shape a.member b.member;
-      len = longer_of from.0.len (shape_bytes tokens a.shape) at.0.len (shape_bytes tokens b.shape) _ a.len b.len (longer tokens a.shape.classes b.shape.classes nested);
-      loose = same_marks from.0.loose a.shape.loose at.0.loose b.shape.loose a.loose b.loose;
-    })
+    HasShape-at tokens (each_with both_shape ss ts) (both_match from.0 at.0) x at.2
+    (HasShape-both tokens ss ts from.0 at.0 agree (first bytes i from.0 from.1) (second bytes i at.0 (Contains-filter_cases (agrees from.0) (n bytes i) at.0 at.1).0))
 
 shaped_either : (tokens : Tokens) (m n : Meaning) (ss ts : List Shape) → IsShaped tokens m ss → IsShaped tokens n ts → IsShaped tokens (either m n) (ss ++ ts)
 shaped_either tokens m n ss ts first second bytes i x h = ⊎_elim
@@ -282,66 +293,78 @@ shaped_eithers tokens [] (ss ∷ sss) h = absurd h
 shaped_eithers tokens (m ∷ ms) [] h = absurd h
 shaped_eithers tokens (m ∷ ms) (ss ∷ sss) h = shaped_eithers_from tokens m ss ms sss h.0 h.1
 
--- ---- operands
-
-no_kind_results : (kind : OperandKind) (bytes : List ℕ) (i : ℕ) → kind_results [] kind bytes i ≡ []
-no_kind_results (Typed t) bytes i = refl
-no_kind_results _ bytes i = refl
-
 -- ---- patterns
 
-mutual
-  -- where nothing is known of constructors and the conjunctions agree, each result has the length and the mark of one of the
-  -- pattern's shapes
-  pub results_shaped : (cx : Context) (p : Pattern) → cx.known ≡ [] → conjunctions_agree cx.tokens p ≡ true → IsShaped cx.tokens (results cx p) (shapes cx.tokens p)
-  results_shaped cx (Token c) none agree = shaped_class cx.tokens c
-  results_shaped cx (Limit f relation limit) none agree = shaped_limit cx.tokens f relation limit
-  results_shaped cx (Bind f) none agree = shaped_bind cx.tokens f
-  results_shaped cx (Operand k) none agree = λ bytes i.
-      shaped_from cx.tokens [] (slice_get cx.operands k) _ (λ kind is. shaped_none cx.tokens _ [] (ap (λ known. kind_results known kind bytes i) none ∙ no_kind_results kind bytes i))
-  results_shaped cx (Label' l s p) none agree = λ bytes i a m.
-      let from = Contains-map_cases (label_match l i) (boxed_meaning (row_meanings cx p) bytes i) a m in
-      let b = shaped_boxed cx.tokens (row_meanings cx p) (row_shapes cx.tokens p) (row_shaped cx p none agree) bytes i from.0 from.1 in
-      HasShape-at cx.tokens (boxed_shapes (row_shapes cx.tokens p)) (label_match l i from.0) a from.2
-      (record { shape = b.shape; member = b.member; len = b.len; loose = b.loose })
-  results_shaped cx (Both' s ps) none agree =
-      let parts = and_parts (row_agrees cx.tokens ps) (members_agree (row_shapes cx.tokens ps)) agree in
-      shaped_boths cx.tokens (row_meanings cx ps) (row_shapes cx.tokens ps) (row_shaped cx ps none parts.0) parts.1
-  results_shaped cx (Either' s ps) none agree = shaped_eithers cx.tokens (row_meanings cx ps) (row_shapes cx.tokens ps) (row_shaped cx ps none agree)
-  results_shaped cx (Chain' s ps) none agree = shaped_chains cx.tokens (row_meanings cx ps) (row_shapes cx.tokens ps) (row_shaped cx ps none agree)
-  results_shaped cx (Loose' s p) none agree = λ bytes i.
-      shaped_each cx.tokens loose_match loose_shape (λ a. refl) (λ s. refl) (λ a s e. refl) (boxed_meaning (row_meanings cx p) bytes i) (boxed_shapes (row_shapes cx.tokens p))
-      (shaped_boxed cx.tokens (row_meanings cx p) (row_shapes cx.tokens p) (row_shaped cx p none agree) bytes i)
-  results_shaped cx (Apply' k s arguments) none agree = λ bytes i.
-      shaped_from cx.tokens [] (slice_get cx.known k.0) _ (λ c is. absurd (let gone : None ≡ Some c = sym (ap (λ known. slice_get known k.0) none) ∙ is in cc))
-  results_shaped cx Empty none agree = λ bytes i. shaped_one cx.tokens [] 0 [] refl
+-- each result of the pattern in the one context has the length and the mark of one of its shapes in the other
+abbrev pub HasItsShapes : Context → ShapeContext → Pattern → Type 0
+HasItsShapes cx sx p = IsShaped sx.tokens (results cx p) (shapes sx p)
 
-  row_shaped : {n : _} (cx : Context) (ps : Row_of-Pattern n) → cx.known ≡ [] → row_agrees cx.tokens ps ≡ true → AreEachShaped cx.tokens (row_meanings cx ps) (row_shapes cx.tokens ps)
-  row_shaped cx end_of-Pattern none agree = tt
-  row_shaped cx (more_of-Pattern p ps) none agree =
-      let parts = and_parts (conjunctions_agree cx.tokens p) (row_agrees cx.tokens ps) agree in
-      (results_shaped cx p none parts.0, row_shaped cx ps none parts.1)
+module _ (cx : Context) (sx : ShapeContext) where
+  mutual
+    -- so it is where it is so of each leaf and the conjunctions agree
+    pub results_shaped : (p : Pattern) → AllLeaves (HasItsShapes cx sx) p → conjunctions_agree sx p ≡ true → HasItsShapes cx sx p
+    results_shaped (Token c) leaves agree = leaves
+    results_shaped (Limit f relation limit) leaves agree = leaves
+    results_shaped (Bind f) leaves agree = leaves
+    results_shaped (Operand k) leaves agree = leaves
+    results_shaped (Label' l s p) leaves agree = λ bytes i a m.
+        let from = Contains-map_cases (label_match l i) (boxed_meaning (row_meanings cx p) bytes i) a m in
+        let b = shaped_boxed sx.tokens (row_meanings cx p) (row_shapes sx p) (row_shaped p leaves agree) bytes i from.0 from.1 in
+        HasShape-at sx.tokens (boxed_shapes (row_shapes sx p)) (label_match l i from.0) a from.2
+        (record { shape = b.shape; member = b.member; len = b.len; loose = b.loose })
+    results_shaped (Both' s ps) leaves agree =
+        let parts = and_parts (row_agrees sx ps) (members_agree (row_shapes sx ps)) agree in
+        shaped_boths sx.tokens (row_meanings cx ps) (row_shapes sx ps) (row_shaped ps leaves parts.0) parts.1
+    results_shaped (Either' s ps) leaves agree = shaped_eithers sx.tokens (row_meanings cx ps) (row_shapes sx ps) (row_shaped ps leaves agree)
+    results_shaped (Chain' s ps) leaves agree = shaped_chains sx.tokens (row_meanings cx ps) (row_shapes sx ps) (row_shaped ps leaves agree)
+    results_shaped (Loose' s p) leaves agree = λ bytes i.
+        shaped_each sx.tokens loose_match loose_shape (λ a. refl) (λ s. refl) (λ a s e. refl) (boxed_meaning (row_meanings cx p) bytes i) (boxed_shapes (row_shapes sx p))
+        (shaped_boxed sx.tokens (row_meanings cx p) (row_shapes sx p) (row_shaped p leaves agree) bytes i)
+    results_shaped (Apply' k s arguments) leaves agree = leaves
+    results_shaped Empty leaves agree = leaves
 
--- so each result has a length in the range in which the shapes' lengths are
-pub results_within : (cx : Context) (p : Pattern) (least most : ℕ) → cx.known ≡ [] → conjunctions_agree cx.tokens p ≡ true
-    → lengths_within least most cx.tokens (shapes cx.tokens p) ≡ true
-    → (bytes : List ℕ) (i : ℕ) (a : Match) → Contains (results cx p bytes i) a → (least ≤ a.len) × (a.len ≤ most)
-results_within cx p least most none agree within bytes i a m =
-    let h = results_shaped cx p none agree bytes i a m in
-    let test = list_all_at_member (λ (s : Shape). leb least (shape_bytes cx.tokens s) && leb (shape_bytes cx.tokens s) most) (shapes cx.tokens p) h.shape within h.member in
-    let parts = and_parts (leb least (shape_bytes cx.tokens h.shape)) (leb (shape_bytes cx.tokens h.shape) most) test in
-    let low = leb-true least (shape_bytes cx.tokens h.shape) parts.0 in
-    let high = leb-true (shape_bytes cx.tokens h.shape) most parts.1 in
-    let len = h.len in
-    (omega arith, omega arith)
+    row_shaped : {n : _} (ps : Row_of-Pattern n) → AllLeavesOfRow (HasItsShapes cx sx) ps → row_agrees sx ps ≡ true → AreEachShaped sx.tokens (row_meanings cx ps) (row_shapes sx ps)
+    row_shaped end_of-Pattern leaves agree = tt
+    row_shaped (more_of-Pattern p ps) leaves agree =
+        let parts = and_parts (conjunctions_agree sx p) (row_agrees sx ps) agree in
+        (results_shaped p leaves.0 parts.0, row_shaped ps leaves.1 parts.1)
 
-not_loose : (b : Bool) → cond b false true ≡ true → b ≡ false
-not_loose true h = sym h
-not_loose false h = refl
+  module _ (p : Pattern) (h : HasItsShapes cx sx p) where
+    -- then each result has a length in the range in which the shapes' lengths are
+    pub results_within : (least most : ℕ) → lengths_within least most sx.tokens (shapes sx p) ≡ true
+        → (bytes : List ℕ) (i : ℕ) (a : Match) → Contains (results cx p bytes i) a → (least ≤ a.len) × (a.len ≤ most)
+    results_within least most within bytes i a m =
+        let of = h bytes i a m in
+        let test = list_all_at_member (λ (s : Shape). leb least (shape_bytes sx.tokens s) && leb (shape_bytes sx.tokens s) most) (shapes sx p) of.shape within of.member in
+        let parts = and_parts (leb least (shape_bytes sx.tokens of.shape)) (leb (shape_bytes sx.tokens of.shape) most) test in
+        let low = leb-true least (shape_bytes sx.tokens of.shape) parts.0 in
+        let high = leb-true (shape_bytes sx.tokens of.shape) most parts.1 in
+        let len = of.len in
+        (omega arith, omega arith)
 
--- and where no shape is loose, no result is
-pub results_closed : (cx : Context) (p : Pattern) → cx.known ≡ [] → conjunctions_agree cx.tokens p ≡ true → are_closed (shapes cx.tokens p) ≡ true
-    → (bytes : List ℕ) (i : ℕ) (a : Match) → Contains (results cx p bytes i) a → a.loose ≡ false
-results_closed cx p none agree closed bytes i a m =
-    let h = results_shaped cx p none agree bytes i a m in
-    h.loose ∙ not_loose h.shape.loose (list_all_at_member (λ (s : Shape). cond s.loose false true) (shapes cx.tokens p) h.shape closed h.member)
+    -- and where no shape is loose, no result is
+    pub results_closed : are_closed (shapes sx p) ≡ true → (bytes : List ℕ) (i : ℕ) (a : Match) → Contains (results cx p bytes i) a → a.loose ≡ false
+    results_closed closed bytes i a m =
+        let of = h bytes i a m in
+        of.loose ∙ not_loose of.shape.loose (list_all_at_member (λ (s : Shape). cond s.loose false true) (shapes sx p) of.shape closed of.member)
+
+-- ---- leaves
+
+module _ (cx : Context) (sx : ShapeContext) (same : cx.tokens ≡ sx.tokens) where
+  pub shaped_plain_leaf : (p : Pattern) → IsLeaf p → NamesNoConstructor p → HasItsShapes cx sx p
+  shaped_plain_leaf (Token c) leaf h = subst (λ t. IsShaped t (class_results cx.tokens c) (rigid (c ∷ []))) same (shaped_class cx.tokens c)
+  shaped_plain_leaf (Limit f relation limit) leaf h =
+      subst (λ t. IsShaped t (limit_results cx.tokens f relation limit) (field_shapes t f)) same (shaped_limit cx.tokens f relation limit)
+  shaped_plain_leaf (Bind f) leaf h = subst (λ t. IsShaped t (bind_results cx.tokens f) (field_shapes t f)) same (shaped_bind cx.tokens f)
+  shaped_plain_leaf (Operand k) leaf h = absurd h
+  shaped_plain_leaf (Label' l s p) leaf h = absurd leaf
+  shaped_plain_leaf (Both' s ps) leaf h = absurd leaf
+  shaped_plain_leaf (Either' s ps) leaf h = absurd leaf
+  shaped_plain_leaf (Chain' s ps) leaf h = absurd leaf
+  shaped_plain_leaf (Loose' s p) leaf h = absurd leaf
+  shaped_plain_leaf (Apply' k s arguments) leaf h = absurd h
+  shaped_plain_leaf Empty leaf h = λ bytes i. shaped_one sx.tokens [] 0 [] refl
+
+  -- a pattern that names no constructor has its shapes in every context of these tokens
+  pub plain_shaped : (p : Pattern) → AllLeaves NamesNoConstructor p → conjunctions_agree sx p ≡ true → HasItsShapes cx sx p
+  plain_shaped p plain agree = results_shaped cx sx p (AllLeaves-weaker NamesNoConstructor (HasItsShapes cx sx) shaped_plain_leaf p plain) agree

@@ -1,8 +1,10 @@
 -- What is asked of each pattern, inside a pattern, that has no parts.
-use Rattle.std.specs.Prelude.{◌<◌, ◌^◌, slice_get, IsSome}
+use Rattle.std.specs.Prelude.{◌<◌, ◌^◌, List, slice_get, IsSome, IsSomeAnd}
 use Rattle.token_bits.specs.declared.tokens.Tokens.{Tokens}
+use Rattle.sled_model.specs.declared.constructor.OperandKind.{OperandKind}
+use Rattle.sled_model.specs.declared.constructor.OperandKind.TheVariants.{Typed}
 use Rattle.sled_model.specs.declared.pattern.Pattern.{Pattern, Row_of-Pattern, end_of-Pattern, more_of-Pattern}
-use Rattle.sled_model.specs.declared.pattern.Pattern.TheVariants.{Limit, Bind, Operand, Label', Both', Either', Chain', Loose', Apply'}
+use Rattle.sled_model.specs.declared.pattern.Pattern.TheVariants.{Token, Limit, Bind, Operand, Label', Both', Either', Chain', Loose', Apply'}
 use Rattle.sled_model.specs.Measures.{width_at}
 
 abbrev mutual
@@ -36,6 +38,24 @@ abbrev pub NamesKnownField : Tokens → Pattern → Type 0
 NamesKnownField tokens (Limit f relation limit) = IsSome (slice_get tokens.fields f.0)
 NamesKnownField tokens (Bind f) = IsSome (slice_get tokens.fields f.0)
 NamesKnownField tokens _ = Unit {0}
+
+-- the class that it names is known
+abbrev pub NamesKnownClass : Tokens → Pattern → Type 0
+NamesKnownClass tokens (Token c) = IsSome (slice_get tokens.classes c.0)
+NamesKnownClass tokens _ = Unit {0}
+
+abbrev pub IsTyped : OperandKind → Type 0
+IsTyped (Typed t) = Unit {0}
+IsTyped _ = ⊥
+
+-- the operand that it names, of operands of these kinds, is a typed one
+abbrev pub NamesTypedOperand : List OperandKind → Pattern → Type 0
+NamesTypedOperand kinds (Operand k) = IsSomeAnd (slice_get kinds k) IsTyped
+NamesTypedOperand kinds _ = Unit {0}
+
+abbrev pub IsNoApplication : Pattern → Type 0
+IsNoApplication (Apply' k s arguments) = ⊥
+IsNoApplication _ = Unit {0}
 
 -- the row has a pattern
 abbrev pub IsFilledRow : {n : _} → Row_of-Pattern n → Type 0

@@ -111,6 +111,11 @@ weighed tokens known c =
 abbrev pub pattern_weight : Spec → Pattern → ℕ
 pattern_weight spec p = weight spec.tokens (each_from (weighed spec.tokens) [] spec.constructors) (λ k. 0) p
 
+-- the weight of a constructor's body, whose operands are of the types that the whole description makes
+abbrev pub constructor_weight : Spec → Constructor → ℕ
+constructor_weight spec c =
+    let known = each_from (weighed spec.tokens) [] spec.constructors in weight spec.tokens known (operand_weight known c.operands) c.body
+
 -- ---- size: a result of the pattern has at most so many entries, counted at each level
 
 pub record Sized : Type 0 where
@@ -158,6 +163,11 @@ number_size _ = 0
 
 abbrev pub sized : List Sized → Constructor → Sized
 sized known c = record { constructor = c; size = 1 + sum_by number_size c.operands + size known (operand_size known c.operands) c.body }
+
+-- the size of a constructor, whose operands are of the types that the whole description makes
+abbrev pub constructor_size : Spec → Constructor → ℕ
+constructor_size spec c =
+    let known = each_from sized [] spec.constructors in 1 + sum_by number_size c.operands + size known (operand_size known c.operands) c.body
 
 -- the size of a pattern that stands in no body
 abbrev pub pattern_size : Spec → Pattern → ℕ

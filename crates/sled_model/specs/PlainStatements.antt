@@ -1,5 +1,5 @@
--- Statements over a description that declares no constructors.
-use Rattle.std.specs.Prelude.{ℕ, ◌≡◌, ◌≤◌, List, [], All, IfSome}
+-- Statements whose arms name no constructor.
+use Rattle.std.specs.Prelude.{ℕ, ◌≤◌, List, All, IfSome}
 use Rattle.sled_model.specs.declared.raw.Match.{Match}
 use Rattle.sled_model.specs.declared.spec.Spec.{Spec}
 use Rattle.sled_model.specs.declared.statement.Arm.{Arm}
@@ -17,7 +17,7 @@ IsMatchLength n = (1 ≤ n) × (n ≤ 32)
 abbrev pub IsBoundedArm : Spec → Arm → Type 0
 IsBoundedArm spec arm = (bytes : List ℕ) → All (λ (m : Match). IsMatchLength m.len) (arm_results spec arm bytes 0)
 
--- the arm takes some bytes at a place, and not too many, and its pattern stands alone, without constructors
+-- the arm takes some bytes at a place, and not too many, and its pattern names no constructor
 pub record IsPlainArm (spec : Spec) (arm : Arm) : Type 0 where
   pub bounded : IsBoundedArm spec arm
   pub plain : AllLeaves NamesNoConstructor arm.pattern
@@ -25,6 +25,5 @@ pub record IsPlainArm (spec : Spec) (arm : Arm) : Type 0 where
 
 pub record IsPlainStatement (spec : Spec) (statement : Statement) : Type 0 where
   pub tokens : AreTokens spec.tokens
-  pub plain : spec.constructors ≡ []
   pub arms : All (IsPlainArm spec) statement.arms
   pub skip : IfSome statement.skip IsMatchLength

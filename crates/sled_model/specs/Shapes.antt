@@ -1,5 +1,5 @@
 -- The shapes of a pattern, one for each alternative, and what the language asks of them.
-use Rattle.std.specs.Prelude.{ℕ, ◌==◌, nat_le, nat_lt, Bool, true, false, ◌&&◌, ◌||◌, List, [], ◌∷◌, ◌++◌, length, map, fold, sum, slice_get, if◌then◌else◌}
+use Rattle.std.specs.Prelude.{ℕ, ◌==◌, nat_le, nat_lt, Bool, true, false, ◌&&◌, ◌||◌, List, [], ◌∷◌, ◌++◌, length, map, fold, sum, slice_get, Option, Some, None, unwrap_or, option_and_then, if◌then◌else◌}
 use Rattle.std.specs.List.{flat_map, list_all}
 use Rattle.std.specs.Option.{option_map_or}
 use Rattle.token_bits.specs.declared.tokens.ClassId.{ClassId}
@@ -7,11 +7,20 @@ use Rattle.token_bits.specs.declared.tokens.Field.{Field}
 use Rattle.token_bits.specs.declared.tokens.FieldId.{FieldId}
 use Rattle.token_bits.specs.declared.tokens.Tokens.{Tokens}
 use Rattle.sled_model.specs.declared.shape.Shape.{Shape}
-use Rattle.sled_model.specs.declared.pattern.Pattern.{Pattern, Row_of-Pattern, end_of-Pattern, more_of-Pattern}
+use Rattle.sled_model.specs.declared.constructor.TypeId.{TypeId}
+use Rattle.sled_model.specs.declared.constructor.OperandKind.{OperandKind}
+use Rattle.sled_model.specs.declared.constructor.OperandKind.TheVariants.{Typed}
+use Rattle.sled_model.specs.declared.constructor.Constructor.{Constructor}
+use Rattle.sled_model.specs.declared.spec.Spec.{Spec}
+use Rattle.sled_model.specs.declared.pattern.Argument.{Argument}
+use Rattle.sled_model.specs.declared.pattern.Argument.TheVariants.{Inner'}
+use Rattle.sled_model.specs.declared.pattern.Pattern.{Pattern, Row_of-Pattern, end_of-Pattern, more_of-Pattern, Row_of-Argument, end_of-Argument, more_of-Argument}
 use Rattle.sled_model.specs.declared.pattern.Pattern.TheVariants.{Token, Limit, Bind, Operand, Label', Both', Either', Chain', Loose', Apply', Empty}
 use Rattle.token_bits.specs.Tokens.{byte_count}
+use Rattle.sled_model.specs.Results.{makes}
+use Rattle.sled_model.specs.Measures.{each_from}
 
--- ---- shapes
+-- ---- lists of shapes
 
 -- the one shape of these classes that is not loose
 abbrev pub rigid : List ClassId → List Shape
@@ -47,25 +56,87 @@ abbrev pub boxed_shapes : List (List Shape) → List Shape
 boxed_shapes [] = []
 boxed_shapes (ss ∷ rest) = ss
 
+-- ---- constructors
+
+-- a constructor, the shapes of its body when those of each operand are given, and its shapes with those of the operands' types
+pub record Shaped : Type 0 where
+  pub constructor : Constructor
+  pub body : (ℕ → List Shape) → List Shape
+  pub shapes : List Shape
+
+-- what a pattern stands among: the operands are those of the constructor whose body it is, and have these shapes
+pub record ShapeContext : Type 0 where
+  pub tokens : Tokens
+  pub operands : ℕ → List Shape
+  pub known : List Shaped
+
+-- a type has the shapes of its constructors, one after the other
+abbrev pub type_shapes : List Shaped → TypeId → List Shape
+type_shapes known t = flat_map (λ (c : Shaped). if makes t c.constructor.result then c.shapes else []) known
+
+abbrev pub kind_shapes : List Shaped → OperandKind → List Shape
+kind_shapes known (Typed t) = type_shapes known t
+kind_shapes known _ = []
+
+abbrev pub operand_shapes : List Shaped → List OperandKind → ℕ → List Shape
+operand_shapes known kinds k = option_map_or (kind_shapes known) (slice_get kinds k) []
+
+-- an application has the shapes of the body, with those of each inner application in place of its operand's
+abbrev pub application_shapes : List Shaped → ℕ → List (Option (List Shape)) → List Shape
+application_shapes known k arguments =
+    option_map_or (λ (c : Shaped). c.body (λ j. unwrap_or (option_and_then (λ a. a) (slice_get arguments j)) (operand_shapes known c.constructor.operands j))) (slice_get known k) []
+
+-- ---- patterns
+
 abbrev mutual
-  -- the shapes of a pattern without constructors
-  pub shapes : Tokens → Pattern → List Shape
-  shapes tokens (Token c) = rigid (c ∷ [])
-  shapes tokens (Limit f relation limit) = field_shapes tokens f
-  shapes tokens (Bind f) = field_shapes tokens f
-  shapes tokens (Operand k) = []
-  shapes tokens (Label' l s p) = boxed_shapes (row_shapes tokens p)
-  shapes tokens (Both' s ps) = fold_shapes both_shape (row_shapes tokens ps)
-  shapes tokens (Either' s ps) = flat_map (λ ss. ss) (row_shapes tokens ps)
-  shapes tokens (Chain' s ps) = fold_shapes chain_shape (row_shapes tokens ps)
-  shapes tokens (Loose' s p) = map loose_shape (boxed_shapes (row_shapes tokens p))
-  shapes tokens (Apply' k s arguments) = []
-  shapes tokens Empty = rigid []
+  -- the shapes of a pattern
+  pub shapes : ShapeContext → Pattern → List Shape
+  shapes cx (Token c) = rigid (c ∷ [])
+  shapes cx (Limit f relation limit) = field_shapes cx.tokens f
+  shapes cx (Bind f) = field_shapes cx.tokens f
+  shapes cx (Operand k) = cx.operands k
+  shapes cx (Label' l s p) = boxed_shapes (row_shapes cx p)
+  shapes cx (Both' s ps) = fold_shapes both_shape (row_shapes cx ps)
+  shapes cx (Either' s ps) = flat_map (λ ss. ss) (row_shapes cx ps)
+  shapes cx (Chain' s ps) = fold_shapes chain_shape (row_shapes cx ps)
+  shapes cx (Loose' s p) = map loose_shape (boxed_shapes (row_shapes cx p))
+  shapes cx (Apply' k s arguments) = application_shapes cx.known k.0 (argument_shapes cx arguments)
+  shapes cx Empty = rigid []
 
   -- the shapes of each pattern of a row
-  pub row_shapes : {n : _} → Tokens → Row_of-Pattern n → List (List Shape)
-  row_shapes tokens end_of-Pattern = []
-  row_shapes tokens (more_of-Pattern p ps) = shapes tokens p ∷ row_shapes tokens ps
+  pub row_shapes : {n : _} → ShapeContext → Row_of-Pattern n → List (List Shape)
+  row_shapes cx end_of-Pattern = []
+  row_shapes cx (more_of-Pattern p ps) = shapes cx p ∷ row_shapes cx ps
+
+  -- the shapes of each argument that is an application
+  pub argument_shapes : {n : _} → ShapeContext → Row_of-Argument n → List (Option (List Shape))
+  argument_shapes cx end_of-Argument = []
+  argument_shapes cx (more_of-Argument a arguments) = shapes_of_argument cx a ∷ argument_shapes cx arguments
+
+  pub shapes_of_argument : ShapeContext → Argument → Option (List Shape)
+  shapes_of_argument cx (Inner' s p) = Some (boxed_shapes (row_shapes cx p))
+  shapes_of_argument cx _ = None
+
+-- what a pattern stands among where there are no constructors
+abbrev pub lone_shapes : Tokens → ShapeContext
+lone_shapes tokens = record { tokens = tokens; operands = λ k. []; known = [] }
+
+-- what a constructor's body stands among, with operands of these kinds, over those that are known
+abbrev pub body_shapes : Tokens → List Shaped → List OperandKind → ShapeContext
+body_shapes tokens known kinds = record { tokens = tokens; operands = operand_shapes known kinds; known = known }
+
+abbrev pub shaped : Tokens → List Shaped → Constructor → Shaped
+shaped tokens known c =
+    let body = λ (operands : ℕ → List Shape). shapes (record { tokens = tokens; operands = operands; known = known }) c.body in
+    record { constructor = c; body = body; shapes = body (operand_shapes known c.operands) }
+
+-- the constructors of the description, with their shapes
+abbrev pub known_shapes : Spec → List Shaped
+known_shapes spec = each_from (shaped spec.tokens) [] spec.constructors
+
+-- what a pattern that stands in no body stands among
+abbrev pub spec_shapes : Spec → ShapeContext
+spec_shapes spec = record { tokens = spec.tokens; operands = λ k. []; known = known_shapes spec }
 
 -- ---- conjunctions
 
@@ -102,18 +173,19 @@ members_agree [] = true
 members_agree (ss ∷ rest) = sides_agree ss rest
 
 abbrev mutual
-  -- in each conjunction in the pattern, every alternative of one side agrees with every alternative of the other
-  pub conjunctions_agree : Tokens → Pattern → Bool
-  conjunctions_agree tokens (Label' l s p) = row_agrees tokens p
-  conjunctions_agree tokens (Both' s ps) = row_agrees tokens ps && members_agree (row_shapes tokens ps)
-  conjunctions_agree tokens (Either' s ps) = row_agrees tokens ps
-  conjunctions_agree tokens (Chain' s ps) = row_agrees tokens ps
-  conjunctions_agree tokens (Loose' s p) = row_agrees tokens p
-  conjunctions_agree tokens _ = true
+  -- in each conjunction in the pattern, every alternative of one side agrees with every alternative of the other; what an application
+  -- names was asked where it was declared, and has nothing more to ask
+  pub conjunctions_agree : ShapeContext → Pattern → Bool
+  conjunctions_agree cx (Label' l s p) = row_agrees cx p
+  conjunctions_agree cx (Both' s ps) = row_agrees cx ps && members_agree (row_shapes cx ps)
+  conjunctions_agree cx (Either' s ps) = row_agrees cx ps
+  conjunctions_agree cx (Chain' s ps) = row_agrees cx ps
+  conjunctions_agree cx (Loose' s p) = row_agrees cx p
+  conjunctions_agree cx _ = true
 
-  pub row_agrees : {n : _} → Tokens → Row_of-Pattern n → Bool
-  row_agrees tokens end_of-Pattern = true
-  row_agrees tokens (more_of-Pattern p ps) = conjunctions_agree tokens p && row_agrees tokens ps
+  pub row_agrees : {n : _} → ShapeContext → Row_of-Pattern n → Bool
+  row_agrees cx end_of-Pattern = true
+  row_agrees cx (more_of-Pattern p ps) = conjunctions_agree cx p && row_agrees cx ps
 
 -- ---- chains
 
@@ -129,17 +201,17 @@ lefts_are_closed (ss ∷ ts ∷ rest) = are_closed ss && lefts_are_closed (ts �
 
 abbrev mutual
   -- in each chain in the pattern, what stands before a `;` is loose in no alternative
-  pub chains_are_closed : Tokens → Pattern → Bool
-  chains_are_closed tokens (Label' l s p) = row_is_closed tokens p
-  chains_are_closed tokens (Both' s ps) = row_is_closed tokens ps
-  chains_are_closed tokens (Either' s ps) = row_is_closed tokens ps
-  chains_are_closed tokens (Chain' s ps) = row_is_closed tokens ps && lefts_are_closed (row_shapes tokens ps)
-  chains_are_closed tokens (Loose' s p) = row_is_closed tokens p
-  chains_are_closed tokens _ = true
+  pub chains_are_closed : ShapeContext → Pattern → Bool
+  chains_are_closed cx (Label' l s p) = row_is_closed cx p
+  chains_are_closed cx (Both' s ps) = row_is_closed cx ps
+  chains_are_closed cx (Either' s ps) = row_is_closed cx ps
+  chains_are_closed cx (Chain' s ps) = row_is_closed cx ps && lefts_are_closed (row_shapes cx ps)
+  chains_are_closed cx (Loose' s p) = row_is_closed cx p
+  chains_are_closed cx _ = true
 
-  pub row_is_closed : {n : _} → Tokens → Row_of-Pattern n → Bool
-  row_is_closed tokens end_of-Pattern = true
-  row_is_closed tokens (more_of-Pattern p ps) = chains_are_closed tokens p && row_is_closed tokens ps
+  pub row_is_closed : {n : _} → ShapeContext → Row_of-Pattern n → Bool
+  row_is_closed cx end_of-Pattern = true
+  row_is_closed cx (more_of-Pattern p ps) = chains_are_closed cx p && row_is_closed cx ps
 
 -- ---- disjunctions
 
@@ -157,17 +229,17 @@ are_one_shape (a ∷ ss) = list_all (is_same_shape a) ss
 
 abbrev mutual
   -- in each disjunction in the pattern, all alternatives have one shape
-  pub sides_have_one_shape : Tokens → Pattern → Bool
-  sides_have_one_shape tokens (Label' l s p) = row_has_one_shape tokens p
-  sides_have_one_shape tokens (Both' s ps) = row_has_one_shape tokens ps
-  sides_have_one_shape tokens (Either' s ps) = row_has_one_shape tokens ps && are_one_shape (flat_map (λ ss. ss) (row_shapes tokens ps))
-  sides_have_one_shape tokens (Chain' s ps) = row_has_one_shape tokens ps
-  sides_have_one_shape tokens (Loose' s p) = row_has_one_shape tokens p
-  sides_have_one_shape tokens _ = true
+  pub sides_have_one_shape : ShapeContext → Pattern → Bool
+  sides_have_one_shape cx (Label' l s p) = row_has_one_shape cx p
+  sides_have_one_shape cx (Both' s ps) = row_has_one_shape cx ps
+  sides_have_one_shape cx (Either' s ps) = row_has_one_shape cx ps && are_one_shape (flat_map (λ ss. ss) (row_shapes cx ps))
+  sides_have_one_shape cx (Chain' s ps) = row_has_one_shape cx ps
+  sides_have_one_shape cx (Loose' s p) = row_has_one_shape cx p
+  sides_have_one_shape cx _ = true
 
-  pub row_has_one_shape : {n : _} → Tokens → Row_of-Pattern n → Bool
-  row_has_one_shape tokens end_of-Pattern = true
-  row_has_one_shape tokens (more_of-Pattern p ps) = sides_have_one_shape tokens p && row_has_one_shape tokens ps
+  pub row_has_one_shape : {n : _} → ShapeContext → Row_of-Pattern n → Bool
+  row_has_one_shape cx end_of-Pattern = true
+  row_has_one_shape cx (more_of-Pattern p ps) = sides_have_one_shape cx p && row_has_one_shape cx ps
 
 -- ---- lengths
 

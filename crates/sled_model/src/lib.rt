@@ -2,7 +2,13 @@
 //! instances, and statements.
 #![tactic(auto)]
 
+mod admits;
+mod admitted;
+mod bodies;
+mod choices;
 mod constructor;
+mod constructor_names;
+mod context;
 mod copies;
 mod first_arm;
 mod instance;
@@ -16,15 +22,16 @@ mod statement;
 mod tests;
 mod values;
 
+pub use bodies::results;
 pub use constructor::{
     Atom, Constructor, ConstructorId, ConstructorList, Equation, EquationList, KindList, Name,
     NameList, OperandKind, Term, TermList, TypeId,
 };
+pub use constructor_names::ConstructorNames;
 pub use copies::copy_arguments;
 pub use first_arm::first;
 pub use instance::{Instance, LabelId, Operand, OperandList};
 pub use pattern::{Argument, ArgumentList, Pattern, PatternList, Relation};
-pub use plain::results;
 pub use raw::{Match, MatchList, Raw, RawEntry, RawList};
 pub use shape::{ClassIdList, Shape, ShapeList};
 pub use spec::Spec;

@@ -2,8 +2,11 @@
 ghost use Rattle.std.specs.Prelude.{◌≡◌, ◌+◌, ◌^◌, ◌<◌, ◌≤◌, ◌≢◌, ◌++◌, length, map, filter, All, IfOk, OnOk, IfSome, OnSome};
 ghost use Rattle.std.specs.List.{flat_map, fold};
 ghost use Rattle.token_bits.specs.Tokens.{AreTokens};
-ghost use Rattle.sled_model.specs.Results.{alone, results as results_of, fold_meanings, chain, both, either, chain_match, agrees as agrees_with, both_match, one_match as one_match_of, class_results as class_results_of, limit_results as limit_results_of, bind_results as bind_results_of, label_match, loose_match};
+ghost use Rattle.sled_model.specs.PatternContexts.{context_in, IsPatternContext};
+ghost use Rattle.sled_model.specs.Results.{results as results_of, fold_meanings, chain, both, either, chain_match, agrees as agrees_with, both_match, one_match as one_match_of, class_results as class_results_of, limit_results as limit_results_of, bind_results as bind_results_of, label_match, loose_match};
 
+use crate::choices::{application_results, operand_results};
+use crate::context::PatternContext;
 use crate::copies::copy_entries;
 use crate::{Match, Pattern, RawEntry, Relation};
 use sled_base::NoMemory;
@@ -199,21 +202,19 @@ fn all_both(alloc: Global, firsts: &[Match], seconds: &[Match]) -> Result<Items<
 #[cycle(results)]
 fn all_chained(
     alloc: Global,
-    tokens: &Tokens,
+    near: &PatternContext<'_>,
     firsts: &[Match],
     part: &Pattern,
-    window: &[u8],
     at: usize,
 ) -> Result<Items<Match>, NoMemory>
-    requires tokens { AreTokens tokens.now }
-    requires window { length window.now < 256 }
-    requires firsts { All (λ a. at + a.len ≤ length window.now) firsts.now }
-    ensures value { IfOk result (λ found. found ≡ flat_map (λ a. map (chain_match a) (results_of (alone tokens.now) part.now window.now (at + a.len))) firsts.now) }
-    ensures within { IfOk result (All (λ a. at + a.len ≤ length window.now)) }
+    requires near { IsPatternContext near.now }
+    requires firsts { All (λ a. at + a.len ≤ length near.now.window.now) firsts.now }
+    ensures value { IfOk result (λ found. found ≡ flat_map (λ a. map (chain_match a) (results_of (context_in near.now) part.now near.now.window.now (at + a.len))) firsts.now) }
+    ensures within { IfOk result (All (λ a. at + a.len ≤ length near.now.window.now)) }
 {
     let mut found = Items::new(alloc);
     for a in firsts {
-        let seconds = results(alloc, tokens, part, window, at + a.len)?;
+        let seconds = results_among(alloc, near, part, at + a.len)?;
         push_chained(alloc, &mut found, a, seconds.as_slice())?;
     }
     Ok(found)
@@ -222,23 +223,21 @@ fn all_chained(
 #[cycle(results)]
 fn chain_results(
     alloc: Global,
-    tokens: &Tokens,
+    near: &PatternContext<'_>,
     parts: &[Pattern],
-    window: &[u8],
     at: usize,
 ) -> Result<Items<Match>, NoMemory>
-    requires tokens { AreTokens tokens.now }
-    requires window { length window.now < 256 }
-    requires at { at ≤ length window.now }
-    ensures value { IfOk result (λ found. found ≡ fold_meanings chain (map (results_of (alone tokens.now)) parts.now) window.now at) }
-    ensures within { IfOk result (All (λ a. at + a.len ≤ length window.now)) }
+    requires near { IsPatternContext near.now }
+    requires at { at ≤ length near.now.window.now }
+    ensures value { IfOk result (λ found. found ≡ fold_meanings chain (map (results_of (context_in near.now)) parts.now) near.now.window.now at) }
+    ensures within { IfOk result (All (λ a. at + a.len ≤ length near.now.window.now)) }
 {
     let Some((first, rest)) = parts.split_first() else {
         return Ok(Items::new(alloc));
     };
-    let mut found = results(alloc, tokens, first, window, at)?;
+    let mut found = results_among(alloc, near, first, at)?;
     for part in rest {
-        found = all_chained(alloc, tokens, found.as_slice(), part, window, at)?;
+        found = all_chained(alloc, near, found.as_slice(), part, at)?;
     }
     Ok(found)
 }
@@ -246,23 +245,21 @@ fn chain_results(
 #[cycle(results)]
 fn both_results(
     alloc: Global,
-    tokens: &Tokens,
+    near: &PatternContext<'_>,
     parts: &[Pattern],
-    window: &[u8],
     at: usize,
 ) -> Result<Items<Match>, NoMemory>
-    requires tokens { AreTokens tokens.now }
-    requires window { length window.now < 256 }
-    requires at { at ≤ length window.now }
-    ensures value { IfOk result (λ found. found ≡ fold_meanings both (map (results_of (alone tokens.now)) parts.now) window.now at) }
-    ensures within { IfOk result (All (λ a. at + a.len ≤ length window.now)) }
+    requires near { IsPatternContext near.now }
+    requires at { at ≤ length near.now.window.now }
+    ensures value { IfOk result (λ found. found ≡ fold_meanings both (map (results_of (context_in near.now)) parts.now) near.now.window.now at) }
+    ensures within { IfOk result (All (λ a. at + a.len ≤ length near.now.window.now)) }
 {
     let Some((first, rest)) = parts.split_first() else {
         return Ok(Items::new(alloc));
     };
-    let mut found = results(alloc, tokens, first, window, at)?;
+    let mut found = results_among(alloc, near, first, at)?;
     for part in rest {
-        let seconds = results(alloc, tokens, part, window, at)?;
+        let seconds = results_among(alloc, near, part, at)?;
         found = all_both(alloc, found.as_slice(), seconds.as_slice())?;
     }
     Ok(found)
@@ -271,65 +268,71 @@ fn both_results(
 #[cycle(results)]
 fn either_results(
     alloc: Global,
-    tokens: &Tokens,
+    near: &PatternContext<'_>,
     parts: &[Pattern],
-    window: &[u8],
     at: usize,
 ) -> Result<Items<Match>, NoMemory>
-    requires tokens { AreTokens tokens.now }
-    requires window { length window.now < 256 }
-    requires at { at ≤ length window.now }
-    ensures value { IfOk result (λ found. found ≡ fold_meanings either (map (results_of (alone tokens.now)) parts.now) window.now at) }
-    ensures within { IfOk result (All (λ a. at + a.len ≤ length window.now)) }
+    requires near { IsPatternContext near.now }
+    requires at { at ≤ length near.now.window.now }
+    ensures value { IfOk result (λ found. found ≡ fold_meanings either (map (results_of (context_in near.now)) parts.now) near.now.window.now at) }
+    ensures within { IfOk result (All (λ a. at + a.len ≤ length near.now.window.now)) }
 {
     let Some((first, rest)) = parts.split_first() else {
         return Ok(Items::new(alloc));
     };
-    let mut found = results(alloc, tokens, first, window, at)?;
+    let mut found = results_among(alloc, near, first, at)?;
     for part in rest {
-        found.append(results(alloc, tokens, part, window, at)?)?;
+        found.append(results_among(alloc, near, part, at)?)?;
     }
     Ok(found)
 }
 
-/// The results of a pattern at the offset `at`, in order, where no constructor is known: there an operand and an application
-/// have none. The window has fewer than 256 bytes, so that each offset fits in an entry.
-#[tactic(auto, using(crate::proofs::Equations::results_laws))]
+/// The results of a pattern at the offset `at`, in order.
+#[tactic(auto, using(crate::proofs::AdmittedLaws::all_results_laws))]
 #[cycle(results)]
-pub fn results(
+pub(crate) fn results_among(
     alloc: Global,
-    tokens: &Tokens,
+    near: &PatternContext<'_>,
     pattern: &Pattern,
-    window: &[u8],
     at: usize,
 ) -> Result<Items<Match>, NoMemory>
-    requires tokens { AreTokens tokens.now }
-    requires window { length window.now < 256 }
-    requires at { at ≤ length window.now }
-    ensures value { IfOk result (λ found. found ≡ results_of (alone tokens.now) pattern.now window.now at) }
-    ensures within { IfOk result (All (λ a. at + a.len ≤ length window.now)) }
+    requires near { IsPatternContext near.now }
+    requires at { at ≤ length near.now.window.now }
+    ensures value { IfOk result (λ found. found ≡ results_of (context_in near.now) pattern.now near.now.window.now at) }
+    ensures within { IfOk result (All (λ a. at + a.len ≤ length near.now.window.now)) }
 {
     match pattern {
-        Pattern::Token(class) => class_results(alloc, tokens, *class, window, at),
+        Pattern::Token(class) => class_results(alloc, near.tokens, *class, near.window, at),
         Pattern::Limit {
             field,
             relation,
             value,
-        } => limit_results(alloc, tokens, *field, *relation, *value, window, at),
-        Pattern::Bind(field) => bind_results(alloc, tokens, *field, window, at),
-        Pattern::Operand(_) => Ok(Items::new(alloc)),
+        } => limit_results(
+            alloc,
+            near.tokens,
+            *field,
+            *relation,
+            *value,
+            near.window,
+            at,
+        ),
+        Pattern::Bind(field) => bind_results(alloc, near.tokens, *field, near.window, at),
+        Pattern::Operand(k) => operand_results(alloc, near, *k, at),
         Pattern::Label(label, inner) => {
-            let found = results(alloc, tokens, inner.get(), window, at)?;
+            let found = results_among(alloc, near, inner.get(), at)?;
             labelled(alloc, *label, at, found.as_slice())
         }
-        Pattern::Both(parts) => both_results(alloc, tokens, parts.as_slice(), window, at),
-        Pattern::Either(parts) => either_results(alloc, tokens, parts.as_slice(), window, at),
-        Pattern::Chain(parts) => chain_results(alloc, tokens, parts.as_slice(), window, at),
+        Pattern::Both(parts) => both_results(alloc, near, parts.as_slice(), at),
+        Pattern::Either(parts) => either_results(alloc, near, parts.as_slice(), at),
+        Pattern::Chain(parts) => chain_results(alloc, near, parts.as_slice(), at),
         Pattern::Loose(inner) => {
-            let found = results(alloc, tokens, inner.get(), window, at)?;
+            let found = results_among(alloc, near, inner.get(), at)?;
             loosened(alloc, found.as_slice())
         }
-        Pattern::Apply { .. } => Ok(Items::new(alloc)),
+        Pattern::Apply {
+            constructor,
+            arguments,
+        } => application_results(alloc, near, *constructor, arguments.as_slice(), at),
         Pattern::Empty => one_match(alloc, Items::new(alloc), 0),
     }
 }

@@ -17,7 +17,8 @@ use Rattle.sled_model.specs.declared.spec.Spec.{Spec}
 use Rattle.sled_model.specs.declared.statement.Statement.{Statement}
 use Rattle.sled_elab.specs.declared.lack.Lack.{Lack}
 use Rattle.sled_elab.specs.Conditions.{description_lack}
-use Rattle.sled_elab.specs.Declarations.{Described, described}
+use Rattle.sled_elab.specs.Declarations.{Described}
+use Rattle.sled_elab.specs.Elaboration.{described}
 use Rattle.sled_elab.specs.Statements.{statement_of}
 use Rattle.toolkit_cli.specs.declared.messages.Unit.{Unit as Part}
 use Rattle.toolkit_cli.specs.declared.messages.Unit.TheVariants as part

@@ -21,7 +21,8 @@ use Rattle.sled_elab.specs.declared.lack.Lack.TheVariants as lack
 use Rattle.sled_elab.specs.declared.lack.ElabFault.{ElabFault}
 use Rattle.sled_elab.specs.declared.lack.ElabFault.TheVariants as elab
 use Rattle.sled_elab.specs.Conditions.{description_lack, statement_lack}
-use Rattle.sled_elab.specs.Declarations.{Described, described}
+use Rattle.sled_elab.specs.Declarations.{Described}
+use Rattle.sled_elab.specs.Elaboration.{described}
 use Rattle.sled_elab.specs.Statements.{statement_of}
 use Rattle.toolkit_cli.specs.declared.messages.Unit.{Unit as Part}
 use Rattle.toolkit_cli.specs.declared.messages.Unit.TheVariants as part

@@ -1,6 +1,6 @@
 -- What the definitions of bindings are at each pattern that holds others, seen as lists, and what each step of the code adds.
 use Rattle.std.proofs.Common.{◌≡◌, ℕ, ◌+◌, ◌<◌, Bool, true, false, cond, List, [], ◌∷◌, ◌++◌, map, take, get_or, length, refl, sym, ap, ◌∙◌}
-use Rattle.std.specs.Prelude.{◌&&◌, is_some, Result, Ok, Err, IfOk}
+use Rattle.std.specs.Prelude.{◌&&◌, Result, Ok, Err, IfOk}
 use Rattle.std.specs.List.{list_all}
 use Rattle.std.proofs.lemmas.List.{map-append, take_more}
 use Rattle.std.proofs.lemmas.List.Folds.{list_all-append}
@@ -11,8 +11,8 @@ use denote.Hole.Carrier.{hidden}
 use Rattle.tree_meaning.specs.declared.bindings.Bindings.{Bindings}
 use Rattle.tree_meaning.specs.Names.{are_distinct, merged, are_new, are_same_names}
 use Rattle.tree_meaning.specs.NameTables.{table_names}
-use Rattle.tree_meaning.specs.Scopes.{Declared, field_named}
-use Rattle.tree_meaning.specs.Bindings.{union, bound, row_bound, are_apart, have_same_names, are_none, binds_once, row_binds_once, sides_bind_alike, row_binds_alike, sides_bind_nothing, row_binds_nothing}
+use Rattle.tree_meaning.specs.Scopes.{Declared}
+use Rattle.tree_meaning.specs.Bindings.{word_binds, union, bound, row_bound, are_apart, have_same_names, are_none, binds_once, row_binds_once, sides_bind_alike, row_binds_alike, sides_bind_nothing, row_binds_nothing}
 use Rattle.tree_meaning.specs.Bound.{IsBindingsOf, AreBoundTogether, AreBoundApart}
 use Rattle.tree_meaning.proofs.Merging.{union_distinct, merged_alone, union_push, apart_push, same_push}
 
@@ -89,7 +89,7 @@ module _ (d : Declared) where
   bound_distinct (Loose' s t) = union_distinct (row_bound d t)
   bound_distinct (Group' s t) = union_distinct (row_bound d t)
   bound_distinct Empty = refl
-  bound_distinct (Word w) = by_test (is_some (field_named d w)) where
+  bound_distinct (Word w) = by_test (word_binds d w) where
     by_test : (t : Bool) → are_distinct (cond t (w ∷ []) []) ≡ true
     by_test true = refl
     by_test false = refl

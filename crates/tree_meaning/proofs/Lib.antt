@@ -9,3 +9,4 @@ pub mod ChoiceLemmas
 pub mod PartLemmas
 pub mod CountLemmas
 pub mod Soundness
+pub mod Filled

@@ -1,10 +1,23 @@
--- The names that a pattern binds: those of its bare fields, and its labels.
-use Rattle.std.specs.Prelude.{ℕ, Bool, true, false, ◌&&◌, List, [], ◌∷◌, fold, is_some, if◌then◌else◌}
+-- The names that a pattern binds: those of its bare fields and of its operands, and its labels.
+use Rattle.std.specs.Prelude.{ℕ, Bool, true, false, ◌&&◌, List, [], ◌∷◌, fold, if◌then◌else◌}
 use Rattle.std.specs.List.{list_all}
+use Rattle.std.specs.Option.{option_map_or}
 use Rattle.sled_parser.specs.declared.tree.PatternTree.{PatternTree, Row_of-PatternTree, end_of-PatternTree, more_of-PatternTree}
 use Rattle.sled_parser.specs.declared.tree.PatternTree.TheVariants.{Either', Chain', Both', Labelled', Loose', Group', Word}
+use Rattle.tree_meaning.specs.declared.scope.Meaning.{Meaning}
+use Rattle.tree_meaning.specs.declared.scope.Meaning.TheVariants as meaning
 use Rattle.tree_meaning.specs.Names.{merged, are_new, are_same_names}
-use Rattle.tree_meaning.specs.Scopes.{Declared, field_named}
+use Rattle.tree_meaning.specs.Scopes.{Declared, meaning_of}
+
+-- a lone word with this meaning binds its name
+abbrev pub is_binding : Meaning → Bool
+is_binding (meaning.Field f) = true
+is_binding (meaning.Operand k) = true
+is_binding _ = false
+
+-- a lone word binds its name where it stands for a field or for an operand
+abbrev pub word_binds : Declared → List ℕ → Bool
+word_binds declared w = option_map_or is_binding (meaning_of declared w) false
 
 -- the names of all, each once, in the order in which they come first
 abbrev pub union : List (List (List ℕ)) → List (List ℕ)
@@ -13,7 +26,7 @@ union rows = fold merged [] rows
 abbrev mutual
   -- the names that the pattern binds in one alternative or another, each once, in the order in which they first stand there
   pub bound : Declared → PatternTree → List (List ℕ)
-  bound declared (Word w) = if is_some (field_named declared w) then w ∷ [] else []
+  bound declared (Word w) = if word_binds declared w then w ∷ [] else []
   bound declared (Labelled' l s t) = union ((l ∷ []) ∷ row_bound declared t)
   bound declared (Either' s ts) = union (row_bound declared ts)
   bound declared (Chain' s ts) = union (row_bound declared ts)

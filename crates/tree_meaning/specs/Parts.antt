@@ -8,7 +8,7 @@ use Rattle.token_bits.specs.declared.tokens.Tokens.{Tokens}
 use Rattle.tree_meaning.specs.declared.scope.Meaning.{Meaning}
 use Rattle.tree_meaning.specs.declared.scope.Meaning.TheVariants as meaning
 use Rattle.tree_meaning.specs.declared.parts.Site.{Site}
-use Rattle.tree_meaning.specs.declared.parts.Site.TheVariants.{Definition}
+use Rattle.tree_meaning.specs.declared.parts.Site.TheVariants.{Definition, Arm}
 use Rattle.tree_meaning.specs.Scopes.{Declared, meaning_of, field_named}
 use Rattle.tree_meaning.specs.Values.{all_fit, is_one_number}
 
@@ -43,9 +43,12 @@ labels tree = flat_map part_labels (parts tree)
 
 -- ---- names
 
--- what a lone word may stand for: in a definition anything but a field
+-- what a lone word may stand for: a field not in a definition, an operand only in a body, and a type nowhere
 abbrev pub may_stand : Site → Meaning → Bool
 may_stand Definition (meaning.Field f) = false
+may_stand Definition (meaning.Operand k) = false
+may_stand Arm (meaning.Operand k) = false
+may_stand _ (meaning.Type t) = false
 may_stand _ _ = true
 
 abbrev pub is_known_part : Site → Declared → PatternTree → Bool

@@ -27,12 +27,14 @@ relation_of tree.AtMost = relation.AtMost
 relation_of tree.Above = relation.Above
 relation_of tree.AtLeast = relation.AtLeast
 
--- the pattern that a lone word with this meaning is: a group is any of its members
+-- the pattern that a lone word with this meaning is: a group is any of its members, and a type no bytes
 abbrev pub meaning_pattern : Meaning → Pattern
 meaning_pattern (meaning.Class c) = pattern.Token c
 meaning_pattern (meaning.Field f) = pattern.Bind f
 meaning_pattern (meaning.Pattern p) = p
 meaning_pattern (meaning.Group ps) = pattern.Either ps
+meaning_pattern (meaning.Type t) = pattern.Empty
+meaning_pattern (meaning.Operand k) = pattern.Operand k
 
 -- of a name that was not declared, no bytes
 abbrev pub word_pattern : Declared → List ℕ → Pattern

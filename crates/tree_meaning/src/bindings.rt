@@ -1,12 +1,12 @@
 // What patterns bind.
-ghost use Rattle.std.specs.Prelude.{◌≡◌, ◌&&◌, ◌∷◌, [], true, is_some, IfOk, if◌then◌else◌};
+ghost use Rattle.std.specs.Prelude.{◌≡◌, ◌&&◌, ◌∷◌, [], true, IfOk, if◌then◌else◌};
 ghost use Rattle.tree_meaning.specs.Names.{merged, are_new, are_same_names};
 ghost use Rattle.tree_meaning.specs.NameTables.{table_names};
-ghost use Rattle.tree_meaning.specs.Scopes.{declared_in, field_named as field_of};
-ghost use Rattle.tree_meaning.specs.Bindings.{are_none};
+ghost use Rattle.tree_meaning.specs.Scopes.{declared_in};
+ghost use Rattle.tree_meaning.specs.Bindings.{are_none, word_binds};
 ghost use Rattle.tree_meaning.specs.Bound.{IsBindingsOf, AreBoundTogether, AreBoundApart};
 
-use crate::{NameTable, Scope};
+use crate::{Meaning, NameTable, Scope};
 use sled_base::NoMemory;
 use sled_parser::tree::PatternTree;
 use std::alloc::Global;
@@ -39,19 +39,29 @@ fn plain(names: NameTable<'_>) -> Bindings<'_>
     }
 }
 
-/// A bare field binds its name.
+/// Whether the word stands for a field or for an operand.
+fn is_binding(scope: &Scope<'_>, word: &[u8]) -> bool
+    ensures { result ≡ word_binds (declared_in scope.now) word.now }
+{
+    matches!(
+        scope.find(word),
+        Some(Meaning::Field(_) | Meaning::Operand(_))
+    )
+}
+
+/// A bare field binds its name, and so does an operand.
 fn word_bindings<'a>(
     alloc: Global,
     scope: &Scope<'_>,
     word: &'a [u8],
 ) -> Result<Bindings<'a>, NoMemory>
-    ensures names { IfOk result (λ b. table_names b.names ≡ (if is_some (field_of (declared_in scope.now) word.now) then word.now ∷ [] else [])) }
+    ensures names { IfOk result (λ b. table_names b.names ≡ (if word_binds (declared_in scope.now) word.now then word.now ∷ [] else [])) }
     ensures once { IfOk result (λ b. b.once ≡ true) }
     ensures alike { IfOk result (λ b. b.alike ≡ true) }
     ensures free { IfOk result (λ b. b.free ≡ true) }
 {
     let mut names = NameTable::new(alloc);
-    if scope.field_named(word).is_some() {
+    if is_binding(scope, word) {
         names.add(word)?;
     }
     Ok(plain(names))
@@ -166,7 +176,7 @@ fn apart<'a>(
     Ok(found)
 }
 
-/// What the pattern binds, where the scope says which names are fields.
+/// What the pattern binds, where the scope says which names are fields and operands.
 #[cycle(bindings)]
 pub fn bindings_of<'a>(
     alloc: Global,

@@ -56,6 +56,8 @@ fn may_stand(site: Site, meaning: &Meaning) -> bool
 {
     match (site, meaning) {
         (Site::Definition, Meaning::Field(_)) => false,
+        (Site::Definition | Site::Arm, Meaning::Operand(_)) => false,
+        (_, Meaning::Type(_)) => false,
         _ => true,
     }
 }

@@ -81,6 +81,13 @@ impl<'a> NameTable<'a> {
         Ok(all_new)
     }
 
+    /// Removes each name.
+    pub fn clear(&mut self)
+        ensures { table_names self.new ≡ [] }
+    {
+        self.names.clear();
+    }
+
     fn is_within(&self, other: &NameTable<'_>) -> bool
         ensures { result ≡ list_all (is_among (table_names other.now)) (table_names self.now) }
     {

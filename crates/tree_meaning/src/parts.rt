@@ -14,6 +14,8 @@ pub enum Site {
     Definition,
     /// In an arm.
     Arm,
+    /// In the body of a constructor.
+    Body,
 }
 
 /// The pattern itself and the patterns in it, from left to right, each before those in it.

@@ -51,6 +51,8 @@ fn meaning_pattern(alloc: Global, meaning: &Meaning) -> Result<Pattern, NoMemory
         Meaning::Field(field) => Ok(Pattern::Bind(*field)),
         Meaning::Pattern(pattern) => pattern.copy(alloc),
         Meaning::Group(members) => Ok(Pattern::Either(copied(alloc, members.as_slice())?)),
+        Meaning::Type(_) => Ok(Pattern::Empty),
+        Meaning::Operand(number) => Ok(Pattern::Operand(*number)),
     }
 }
 

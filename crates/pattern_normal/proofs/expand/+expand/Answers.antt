@@ -72,14 +72,14 @@ follow_all-loop-first-preserved t c =
     followed_more a.firsts.now c.loop-first.first-index item (omega arith) c.first-item.is a.tokens.now a.part.now c.as_slice.result.now c.loop-first.pairs c.push_following.new.pairs
     c.loop-first.invariant stands c.in_ok-push_following.ensures.shown c.in_ok-push_following.ensures.ends c.in_ok-push_following.ensures.count
 
-pub expand_both-returns-then-weight_product-eq0 : goal.expand_both-returns-then-weight_product-eq0
-expand_both-returns-then-weight_product-eq0 t c =
+pub expand_both-returns-then-lone_product-eq0 : goal.expand_both-returns-then-lone_product-eq0
+expand_both-returns-then-lone_product-eq0 t c =
     let a = c.args in
-    let z : product (map (lone_weight a.tokens.now) a.parts.now) ≡ 0 = no_weight (product (map (lone_weight a.tokens.now) a.parts.now)) (sym c.weight_product.ensures ∙ c.if-weight_product-eq0.true) in
+    let z : product (map (lone_weight a.tokens.now) a.parts.now) ≡ 0 = no_weight (product (map (lone_weight a.tokens.now) a.parts.now)) (sym c.lone_product.ensures ∙ c.if-lone_product-eq0.true) in
     rw c.new.ensures (none_of_both a.tokens.now a.parts.now _ a.at z)
 
-pub expand_chain-returns-then-weight_product-eq0 : goal.expand_chain-returns-then-weight_product-eq0
-expand_chain-returns-then-weight_product-eq0 t c =
+pub expand_chain-returns-then-lone_product-eq0 : goal.expand_chain-returns-then-lone_product-eq0
+expand_chain-returns-then-lone_product-eq0 t c =
     let a = c.args in
-    let z : product (map (lone_weight a.tokens.now) a.parts.now) ≡ 0 = no_weight (product (map (lone_weight a.tokens.now) a.parts.now)) (sym c.weight_product.ensures ∙ c.if-weight_product-eq0.true) in
+    let z : product (map (lone_weight a.tokens.now) a.parts.now) ≡ 0 = no_weight (product (map (lone_weight a.tokens.now) a.parts.now)) (sym c.lone_product.ensures ∙ c.if-lone_product-eq0.true) in
     rw c.new.ensures (none_of_chain a.tokens.now a.parts.now _ a.at z)

@@ -72,7 +72,7 @@ unmet_forming-requires-clause-plain c =
     let d = declared_in c.args.scope.now in let t = c.args.tree.now.pattern in
     let names : List (List ℕ) = table_names c.in_ok-bindings.bindings.names in
     plain_at c.first_of-pattern.result c.in_ok-patterns_of.field-0 (patterns_of d names t) c.first_of-pattern.ensures c.in_ok-patterns_of.ensures
-    (arm_plain c.args.spec.now d t names c.requires.sound.sound (sym c.in_default.ensures))
+    (arm_plain c.args.spec.now d t names c.requires.sound (sym c.in_default.ensures))
 
 pub returns-in-Some-2-clause-refused : goal.returns-in-Some-2-clause-refused
 returns-in-Some-2-clause-refused c =
@@ -102,7 +102,7 @@ weight-weight-requires-clause-plain c =
     let d = declared_in c.args.scope.now in let t = c.args.tree.now.pattern in
     let names : List (List ℕ) = table_names c.in_ok-bindings.bindings.names in
     plain_at c.first_of-pattern.result c.in_ok-patterns_of.field-0 (patterns_of d names t) c.first_of-pattern.ensures c.in_ok-patterns_of.ensures
-    (arm_plain c.args.spec.now d t names c.requires.sound.sound (sym c.in_default.ensures))
+    (arm_plain c.args.spec.now d t names c.requires.sound (sym c.in_default.ensures))
 
 pub returns-clause-weight : goal.returns-clause-weight
 returns-clause-weight c =
@@ -121,8 +121,8 @@ returns-clause-plain c =
     let formed : IsFormed c.args.spec.now c.args.before p = forming_met c.args.spec.now d c.args.before t p (sym (c.in_ok-condition.ensures d t c.in_ok-bindings.ensures) ∙ c.in_default-2.is) in
     let names : List (List ℕ) = table_names c.in_ok-bindings.bindings.names in
     let plain = plain_at p c.in_ok-patterns_of.field-0 (patterns_of d names t) c.first_of-pattern.ensures c.in_ok-patterns_of.ensures
-    (arm_plain c.args.spec.now d t names c.requires.sound.sound (sym c.in_default.ensures)) in
-    plain_arm c.args.spec.now c.args.before arm c.requires.sound.plain plain formed
+    (arm_plain c.args.spec.now d t names c.requires.sound (sym c.in_default.ensures)) in
+    plain_arm c.args.spec.now c.args.before arm plain formed
 
 pub returns-clause-met : goal.returns-clause-met
 returns-clause-met c =

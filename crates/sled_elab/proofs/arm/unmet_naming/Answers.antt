@@ -5,7 +5,7 @@ use Rattle.tree_meaning.specs.Parts.{are_known, numbers_fit, generates_nothing, 
 use Rattle.tree_meaning.specs.Patterns.{has_part_in_range}
 use Rattle.tree_meaning.specs.Scopes.{declared_in}
 use Rattle.tree_meaning.proofs.PartLaws.{all_parts, all_labels}
-use Rattle.sled_elab.specs.Conditions.{labels_are_new}
+use Rattle.sled_elab.specs.Declarations.{labels_are_new}
 use Rattle.sled_elab.proofs.ArmLemmas.{unmet_1, unmet_2, unmet_4, unmet_5, unmet_none}
 use Rattle.sled_elab.proofs.arm.unmet_naming.Goals as goal
 

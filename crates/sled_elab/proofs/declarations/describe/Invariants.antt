@@ -1,6 +1,7 @@
 use Rattle.std.proofs.Common.{◌≡◌, ◌≤◌, ◌+◌, take, drop}
 use Rattle.std.specs.Prelude.{fold}
-use Rattle.sled_elab.specs.Declarations.{after, nothing}
+use Rattle.sled_elab.specs.Declarations.{nothing}
+use Rattle.sled_elab.specs.Elaboration.{after}
 use Rattle.sled_elab.specs.Conditions.{decls_lack, description_lack}
 use Rattle.sled_elab.specs.Descriptions.{described_in, IsSound}
 use Rattle.sled_elab.proofs.declarations.describe.Given as goal

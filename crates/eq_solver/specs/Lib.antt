@@ -1,0 +1,16 @@
+pub mod Sums
+pub mod Order
+pub mod Steps
+pub mod Solving
+pub mod Pieces
+pub mod Corners
+pub mod Isolated
+pub mod Plans
+pub mod Starts
+pub mod Determined
+pub mod Given
+pub mod Ranges
+pub mod Values
+pub mod Cells
+pub mod Inputs
+pub mod Operands
