@@ -10,3 +10,4 @@ pub mod PartLemmas
 pub mod CountLemmas
 pub mod Soundness
 pub mod Filled
+pub mod Worked

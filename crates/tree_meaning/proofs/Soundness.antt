@@ -231,7 +231,7 @@ module _ (tokens : Tokens) where
 
     module _ (site : Site) (names : List (List ℕ)) where
       mutual
-        patterns_made : (t : PatternTree) → are_known site declared t ≡ true → numbers_fit tokens declared t ≡ true → All (AllLeaves L) (patterns_of declared names t)
+        pub patterns_made : (t : PatternTree) → are_known site declared t ≡ true → numbers_fit tokens declared t ≡ true → All (AllLeaves L) (patterns_of declared names t)
         patterns_made (Either' s ts) known fit =
             let chosen = choices (row_patterns declared names ts) in
             All-map (AllLeaves L) pattern.Either chosen

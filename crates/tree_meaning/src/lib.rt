@@ -21,3 +21,8 @@ pub use parts::{Site, parts_of};
 pub use patterns::patterns_of;
 pub use scope::{Meaning, MeaningList, Scope};
 pub use values::{all_fit, is_one_number, number_count, value_count};
+
+#[cfg(test)]
+mod bindings_tests;
+#[cfg(test)]
+mod patterns_tests;
