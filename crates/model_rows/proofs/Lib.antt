@@ -1,0 +1,11 @@
+pub mod Held
+pub mod Meant
+pub mod WorkedInstances
+pub mod Fits
+pub mod WorkedFaults
+pub mod WorkedEncoding
+pub mod EncodingLaws
+pub mod WorkedEvents
+pub mod WorkedVerdicts
+pub mod VerdictLaws
+pub mod WorkedSolving
