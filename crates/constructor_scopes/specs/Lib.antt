@@ -1,0 +1,4 @@
+pub mod Makings
+pub mod Bodies
+pub mod Names
+pub mod Views
