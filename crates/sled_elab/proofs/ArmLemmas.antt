@@ -28,7 +28,8 @@ use Rattle.tree_meaning.proofs.Soundness.{patterns_sound, sound_plain}
 use Rattle.sled_elab.specs.declared.lack.Lack.{Lack}
 use Rattle.sled_elab.specs.declared.lack.Lack.TheVariants.{Condition, NotBuilt}
 use Rattle.sled_elab.specs.Actions.{unquoted, action_pieces}
-use Rattle.sled_elab.specs.Conditions.{first_unmet, unmet_lack, arm_lack, arm_conditions, arm_naming_conditions, arm_forming_conditions, is_closed_arm, has_lengths, has_measure}
+use Rattle.sled_elab.specs.Conditions.{unmet_lack, arm_lack, arm_conditions, arm_naming_conditions, arm_forming_conditions, is_closed_arm, has_lengths, has_measure}
+use Rattle.constructor_meaning.specs.Unmet.{first_unmet}
 use Rattle.sled_elab.specs.Declarations.{first_of, labels_are_new}
 use Rattle.sled_elab.specs.Descriptions.{IsSound}
 use Rattle.sled_elab.specs.Statements.{arm_names, arm_pattern}

@@ -1,11 +1,12 @@
 -- What declarations make and lack, one after another.
 use Rattle.std.proofs.Common.{◌≡◌, ℕ, ◌+◌, ◌<◌, ◌≤◌, List, [], ◌∷◌, ◌++◌, length, take, drop, get_or, None, refl, sym, ap, ◌∙◌, arith}
 use Rattle.std.specs.Prelude.{fold}
+use Rattle.sled_parser.specs.declared.tree.FieldTree.{FieldTree}
 use Rattle.sled_parser.specs.declared.tree.Decl.{Decl}
 use Rattle.sled_parser.specs.declared.tree.Decl.TheVariants as decl
 use Rattle.tree_meaning.proofs.ListLemmas.{drop-here, take-here}
 use Rattle.sled_elab.specs.Conditions.{first_lack, next_number, decl_lack, decls_lack}
-use Rattle.sled_elab.specs.Declarations.{Described}
+use Rattle.sled_elab.specs.Declarations.{Described, with_class_alone, with_field}
 use Rattle.sled_elab.specs.Elaboration.{after}
 
 fold_push : {A B : Type 0} (f : B → A → B) (z : B) (xs : List A) (x : A) → fold f z (xs ++ x ∷ []) ≡ f (fold f z xs) x
@@ -33,3 +34,20 @@ module _ (decls : List Decl) (i : ℕ) (x : Decl) (here : i < length decls) (is 
       let rest = drop (i + 1) decls in
       ap (decls_lack n old) from_here ∙ ap (λ o. first_lack n o (decls_lack (next_number n x) (after old x) rest)) none
       ∙ ap (λ k. decls_lack k (after old x) rest) (sym next) ∙ ap (λ d. decls_lack m d rest) (sym made)
+
+-- ---- types
+
+fields_untyped : (c : ℕ) (d : Described) (fields : List FieldTree) → (fold (with_field c) d fields).spec.type_names ≡ d.spec.type_names
+fields_untyped c d [] = refl
+fields_untyped c d (f ∷ fs) = fields_untyped c (with_field c d f) fs
+
+after_untyped : (d : Described) (x : Decl) → (after d x).spec.type_names ≡ d.spec.type_names
+after_untyped d (decl.Class name width little fields) = fields_untyped (length d.spec.tokens.classes) (with_class_alone d name width little) fields
+after_untyped d (decl.Heading section) = refl
+after_untyped d (decl.Definition name items tree) = refl
+after_untyped d (decl.ConstructorDecl opcode operands makes equations body) = refl
+
+-- no declaration that lacks nothing declares a type
+pub untyped : (start : Described) (decls : List Decl) → start.spec.type_names ≡ [] → (fold after start decls).spec.type_names ≡ []
+untyped start [] none = none
+untyped start (x ∷ xs) none = untyped (after start x) xs (after_untyped start x ∙ none)

@@ -18,7 +18,8 @@ use Rattle.tree_meaning.specs.Patterns.{patterns_of, choices_among}
 use Rattle.tree_meaning.proofs.ChoiceLemmas.{map-map}
 use Rattle.tree_meaning.proofs.CountLemmas.{length-patterns_of}
 use Rattle.sled_elab.specs.Declarations.{is_name, item_names, member, members, with_name, with_member, with_patterns}
-use Rattle.sled_elab.specs.Conditions.{are_declared_once, choices_are_listed, first_unmet}
+use Rattle.sled_elab.specs.Conditions.{are_declared_once, choices_are_listed}
+use Rattle.constructor_meaning.specs.Unmet.{first_unmet}
 
 pub both_of : (s t : Bool) → (s && t) ≡ true → (s ≡ true) × (t ≡ true)
 both_of true t h = (refl, h)

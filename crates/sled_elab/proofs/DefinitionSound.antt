@@ -20,8 +20,10 @@ use Rattle.tree_meaning.specs.Patterns.{patterns_of}
 use Rattle.tree_meaning.specs.Sound.{IsSoundPattern, IsSoundMeaning}
 use Rattle.tree_meaning.proofs.Soundness.{patterns_sound, sound_plain}
 use Rattle.sled_elab.specs.Declarations.{Described, item_names, member, members, definition_names, first_of, labels_are_new, with_name, with_member, with_patterns, with_definition}
-use Rattle.sled_elab.specs.Conditions.{are_declared_once, choices_are_listed, naming_conditions, first_unmet}
-use Rattle.sled_elab.specs.Descriptions.{IsSound, NamesKnownType}
+use Rattle.sled_elab.specs.Conditions.{are_declared_once, choices_are_listed, naming_conditions}
+use Rattle.constructor_meaning.specs.Unmet.{first_unmet}
+use Rattle.sled_elab.specs.Descriptions.{IsSound}
+use Rattle.constructor_meaning.specs.Sound.{NamesKnownType}
 use Rattle.sled_elab.proofs.DescriptionLemmas.{no_locals, within_more, name_sound}
 use Rattle.sled_elab.proofs.DefinitionLemmas.{both_of, all_met, first_fresh, others_once, member_names, names_of_members, as_many}
 

@@ -19,7 +19,8 @@ use Rattle.tree_meaning.specs.Scopes.{Declared}
 use Rattle.tree_meaning.specs.Sound.{IsSoundMeaning}
 use Rattle.tree_meaning.proofs.NamesLemmas.{distinct_push}
 use Rattle.sled_elab.specs.Declarations.{Described, with_name}
-use Rattle.sled_elab.specs.Descriptions.{IsSound, NamesKnownType}
+use Rattle.sled_elab.specs.Descriptions.{IsSound}
+use Rattle.constructor_meaning.specs.Sound.{NamesKnownType}
 use Rattle.sled_elab.proofs.Growing.{IsKept, slice_get-front, meanings_kept, types_kept}
 
 module _ {A : Type 0} (P : A → Type 0) where

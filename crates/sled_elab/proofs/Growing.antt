@@ -12,7 +12,7 @@ use Rattle.tree_meaning.specs.declared.scope.Meaning.{Meaning}
 use Rattle.tree_meaning.specs.declared.scope.Meaning.TheVariants as meaning
 use Rattle.tree_meaning.specs.Sound.{NamesKnown, IsSoundLeaf, IsSoundPattern, IsSoundMeaning}
 use Rattle.tree_meaning.proofs.Soundness.{AllLeaves-weaker}
-use Rattle.sled_elab.specs.Descriptions.{NamesKnownType}
+use Rattle.constructor_meaning.specs.Sound.{NamesKnownType}
 
 -- what stands at a place stands there in a longer list
 pub slice_get-front : {A : Type 0} (xs ys : List A) (k : ℕ) → IsSome (slice_get xs k) → slice_get (xs ++ ys) k ≡ slice_get xs k

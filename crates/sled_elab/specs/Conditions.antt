@@ -21,17 +21,17 @@ use Rattle.tree_meaning.specs.Parts.{are_known, numbers_fit, generates_nothing, 
 use Rattle.tree_meaning.specs.declared.parts.Site.TheVariants as site
 use Rattle.tree_meaning.specs.Bindings.{bound, binds_once, sides_bind_alike, sides_bind_nothing, are_none}
 use Rattle.tree_meaning.specs.Patterns.{patterns_of}
+use Rattle.sled_parser.specs.declared.tree.OperandTree.{OperandTree}
+use Rattle.sled_parser.specs.declared.tree.EqTree.{EqTree}
+use Rattle.constructor_meaning.specs.Conditions.{conditions as constructor_conditions}
+use Rattle.constructor_meaning.specs.Constructing.{Constructing}
+use Rattle.constructor_meaning.specs.Unmet.{first_unmet}
 use Rattle.sled_elab.specs.declared.lack.Lack.{Lack}
 use Rattle.sled_elab.specs.declared.lack.Lack.TheVariants.{Condition, NotBuilt}
 use Rattle.sled_elab.specs.Actions.{unquoted, action_pieces}
 use Rattle.sled_elab.specs.Declarations.{Described, nothing, class_names, definition_names, item_names, labels_are_new}
 use Rattle.sled_elab.specs.Elaboration.{after}
 use Rattle.sled_elab.specs.Statements.{arm_names, arm_pattern}
-
--- the number of the first condition that is unmet
-abbrev pub first_unmet : List (ℕ × Bool) → Option ℕ
-first_unmet [] = None
-first_unmet (c ∷ cs) = if c.1 then first_unmet cs else Some c.0
 
 -- what is lacking where a condition is unmet
 abbrev pub unmet_lack : List (ℕ × Bool) → Option Lack
@@ -93,12 +93,25 @@ forming_conditions d tree ps =
 abbrev pub definition_conditions : Described → List ℕ → Option (List ItemTree) → PatternTree → List (ℕ × Bool)
 definition_conditions d name items tree = naming_conditions d name items tree ++ forming_conditions d tree (patterns_of d.declared [] tree)
 
--- what a declaration lacks, over those before it: constructors are not built
+-- the declaration of a constructor, in its parts
+abbrev pub constructor_tree : List ℕ → List OperandTree → Option (List ℕ) → List EqTree → PatternTree → Constructing
+constructor_tree opcode operands makes equations body = record { opcode = opcode; operands = operands; result = makes; equations = equations; body = body }
+
+-- a constructor that meets each condition that is asked before its equations are solved is not built
+abbrev pub unmet_or_not_built : Option ℕ → Option Lack
+unmet_or_not_built None = Some NotBuilt
+unmet_or_not_built (Some n) = Some (Condition n)
+
+-- what the declaration of a constructor lacks
+abbrev pub constructor_lack : Described → Constructing → Option Lack
+constructor_lack d c = unmet_or_not_built (first_unmet (constructor_conditions d.spec d.declared c))
+
+-- what a declaration lacks, over those before it
 abbrev pub decl_lack : Described → Decl → Option Lack
 decl_lack d (decl.Class name width little fields) = unmet_lack (class_conditions d name width fields)
 decl_lack d (decl.Heading section) = None
 decl_lack d (decl.Definition name items tree) = unmet_lack (definition_conditions d name items tree)
-decl_lack d (decl.ConstructorDecl opcode operands result equations body) = Some NotBuilt
+decl_lack d (decl.ConstructorDecl opcode operands makes equations body) = constructor_lack d (constructor_tree opcode operands makes equations body)
 
 -- ---- conditions of arms
 

@@ -13,33 +13,23 @@ use Rattle.tree_meaning.specs.Names.{is_among, are_distinct}
 use Rattle.tree_meaning.specs.Scopes.{declared_in}
 use Rattle.tree_meaning.specs.Sound.{IsSoundMeaning}
 use Rattle.tree_meaning.specs.Patterns.{has_all_in_range}
+use Rattle.operand_meaning.specs.Terms.{have_equations_in_range}
 use Rattle.sled_elab.specs.declared.description.Description.{Description}
+use Rattle.constructor_meaning.specs.Sound.{IsSoundScope}
 use Rattle.sled_elab.specs.Declarations.{Described}
 
 -- what a description and its scope hold
 abbrev pub described_in : Description → Described
 described_in d = record { spec = d.spec; declared = declared_in d.scope }
 
--- a type that the name stands for was declared
-abbrev pub NamesKnownType : Spec → Meaning → Type 0
-NamesKnownType spec (meaning.Type t) = t.0 < length spec.type_names
-NamesKnownType spec _ = Unit {0}
+-- the description and its scope are sound
+abbrev pub IsSound : Described → Type 0
+IsSound d = IsSoundScope d.spec d.declared
 
--- the description is one that the language admits; its names are among those that were declared, each once, and each name stands for
--- something of it, outside of any constructor's body
-pub record IsSound (d : Described) : Type 0 where
-  pub spec : IsSpec d.spec
-  pub types : All (NamesKnownType d.spec) d.declared.meanings
-  pub local_names : d.declared.local_names ≡ []
-  pub local_meanings : d.declared.local_meanings ≡ []
-  pub meanings : length d.declared.meanings ≡ length d.declared.names
-  pub distinct : are_distinct d.declared.names ≡ true
-  pub within : All (λ n. is_among d.declared.names n ≡ true) (names_of d.spec)
-  pub sound : All (IsSoundMeaning d.spec.tokens) d.declared.meanings
-
--- each Number of a declaration's pattern is at most 4,294,967,295, as each in a text is
+-- each Number of a declaration's pattern and of its equations is at most 4,294,967,295, as each in a text is
 abbrev pub HasNumbersInRange : Decl → Type 0
 HasNumbersInRange (decl.Definition name items tree) = has_all_in_range tree ≡ true
+HasNumbersInRange (decl.ConstructorDecl opcode operands result equations body) = (has_all_in_range body ≡ true) × (have_equations_in_range equations ≡ true)
 HasNumbersInRange _ = Unit {0}
 
 -- the same of arms

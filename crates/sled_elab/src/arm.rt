@@ -1,6 +1,7 @@
 // An arm.
 ghost use Rattle.std.specs.Prelude.{◌≡◌, ◌<◌, ◌≤◌, ◌^◌, true, length, map, None, IfOk, IfErr};
 ghost use Rattle.sled_elab.specs.Actions.{unquoted, action_pieces as pieces_of};
+ghost use Rattle.constructor_meaning.specs.Unmet.{first_unmet};
 ghost use Rattle.sled_elab.specs.Conditions as of;
 ghost use Rattle.sled_elab.specs.Descriptions.{IsSound, HasArmInRange};
 ghost use Rattle.sled_elab.specs.Refusals.{LacksAs};
@@ -94,7 +95,7 @@ fn unmet_naming(
     requires sound { IsSound (record { spec = spec.now; declared = declared_in scope.now }) }
     requires parts { map (λ x. x.now) parts.now ≡ parts_in tree.now }
     requires numbers { has_all_in_range tree.now ≡ true }
-    ensures { result ≡ of.first_unmet (of.arm_naming_conditions spec.now (declared_in scope.now) tree.now) }
+    ensures { result ≡ first_unmet (of.arm_naming_conditions spec.now (declared_in scope.now) tree.now) }
 {
     if !labels_are_new(scope, parts) {
         return Some(1);
@@ -122,7 +123,7 @@ fn unmet_forming(
     requires sound { AreTokens spec.now.tokens }
     requires plain { AllLeaves NamesNoConstructor pattern.now }
     requires before { before ≤ 16384 }
-    ensures { IfOk result (λ unmet. (declared : Declared) → (tree : PatternTreeOf) → IsBindingsOf declared tree bindings.now → unmet ≡ of.first_unmet (of.arm_forming_conditions spec.now declared before tree pattern.now)) }
+    ensures { IfOk result (λ unmet. (declared : Declared) → (tree : PatternTreeOf) → IsBindingsOf declared tree bindings.now → unmet ≡ first_unmet (of.arm_forming_conditions spec.now declared before tree pattern.now)) }
 {
     let form = spec_form(alloc, spec, pattern)?;
     if !form.agree {

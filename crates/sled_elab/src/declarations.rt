@@ -1,5 +1,5 @@
 // What declarations make, one after another.
-ghost use Rattle.std.specs.Prelude.{◌≡◌, ◌<◌, ◌^◌, All, None, IfOk, IfErr};
+ghost use Rattle.std.specs.Prelude.{◌≡◌, ◌<◌, ◌^◌, [], All, None, IfOk, IfErr};
 ghost use Rattle.sled_elab.specs.Conditions.{decl_lack, description_lack, next_number as next_number_of};
 ghost use Rattle.sled_elab.specs.Descriptions.{described_in, HasNumbersInRange, IsSound};
 ghost use Rattle.sled_elab.specs.Elaboration.{after, described, spec_of};
@@ -7,9 +7,11 @@ ghost use Rattle.sled_elab.specs.Refusals.{IsRefusedAt};
 ghost use Rattle.tree_meaning.specs.Scopes.{declared_in};
 
 use crate::class::declare_class;
+use crate::constructor::constructor_lack;
 use crate::definition::declare_definition;
 use crate::description::Description;
 use crate::lack::{ElabFault, Lack};
+use constructor_meaning::ConstructorTree;
 use sled_base::NoMemory;
 use sled_model::Spec;
 use sled_parser::tree::Decl;
@@ -79,6 +81,7 @@ fn declare<'a>(
     decl: &'a Decl,
 ) -> Result<Option<Lack>, NoMemory>
     requires sound { IsSound (described_in description.old) }
+    requires untyped { (described_in description.old).spec.type_names ≡ [] }
     requires numbers { HasNumbersInRange decl.now }
     ensures lack { IfOk result (λ lack. lack ≡ decl_lack (described_in description.old) decl.now) }
     ensures made { IfOk result (λ lack. lack ≡ None → described_in description.new ≡ after (described_in description.old) decl.now) }
@@ -97,6 +100,22 @@ fn declare<'a>(
             items,
             pattern,
         } => declare_definition(alloc, description, name.as_slice(), items, pattern),
-        Decl::ConstructorDecl { .. } => Ok(Some(Lack::NotBuilt)),
+        Decl::ConstructorDecl {
+            opcode,
+            operands,
+            result: made,
+            equations,
+            body,
+        } => {
+            let tree = ConstructorTree {
+                opcode,
+                operands,
+                result: made,
+                equations,
+                body,
+            };
+            let lack = constructor_lack(alloc, description, &tree)?;
+            Ok(Some(lack))
+        }
     }
 }

@@ -1,6 +1,7 @@
 // A named pattern, or a group of them.
 ghost use Rattle.std.specs.Prelude.{◌≡◌, ◌&&◌, ◌==◌, ◌++◌, ◌∷◌, [], Some, None, true, false, not, map, length, List, All, IfOk, OnOk, IfSome};
 ghost use Rattle.std.specs.List.{list_all, list_any};
+ghost use Rattle.constructor_meaning.specs.Unmet.{first_unmet};
 ghost use Rattle.sled_elab.specs.Conditions as of;
 ghost use Rattle.sled_elab.specs.Declarations as make;
 ghost use Rattle.sled_elab.specs.Descriptions.{described_in, IsSound};
@@ -63,7 +64,7 @@ fn unmet_naming(
 ) -> Result<Option<u8>, NoMemory>
     requires sound { IsSound (described_in description.now) }
     requires numbers { has_all_in_range tree.now ≡ true }
-    ensures { IfOk result (λ unmet. unmet ≡ of.first_unmet (of.naming_conditions (described_in description.now) name.now items.now tree.now)) }
+    ensures { IfOk result (λ unmet. unmet ≡ first_unmet (of.naming_conditions (described_in description.now) name.now items.now tree.now)) }
 {
     let parts = parts_of(alloc, tree)?;
     let scope = &description.scope;
@@ -76,7 +77,7 @@ fn unmet_naming(
 }
 
 fn first_unmet_naming(once: bool, labels: bool, known: bool, fit: bool, listed: bool) -> Option<u8>
-    ensures { result ≡ of.first_unmet ((1, once && labels) ∷ (2, known) ∷ (4, fit) ∷ (5, listed) ∷ []) }
+    ensures { result ≡ first_unmet ((1, once && labels) ∷ (2, known) ∷ (4, fit) ∷ (5, listed) ∷ []) }
 {
     if !once || !labels {
         Some(1)
@@ -221,7 +222,7 @@ fn unmet_forming(
     patterns: &[Pattern],
 ) -> Result<Option<u8>, NoMemory>
     requires { All (AllLeaves NamesNoConstructor) patterns.now }
-    ensures { IfOk result (λ unmet. unmet ≡ of.first_unmet (of.forming_conditions (described_in description.now) tree.now patterns.now)) }
+    ensures { IfOk result (λ unmet. unmet ≡ first_unmet (of.forming_conditions (described_in description.now) tree.now patterns.now)) }
 {
     let forms = forms_of(alloc, &description.spec, patterns)?;
     let bindings = bindings_of(alloc, &description.scope, tree)?;

@@ -17,6 +17,9 @@ const BYTE_AND_LONG: &str = "fields of b (8) x 0:7 fields of w (32) v 0:31";
 
 const BYTE_AND_HALF: &str = "fields of b (8) x 0:7 hi 4:7 fields of h (16 little) y 0:15";
 
+const CLASSES_AND_GROUP: &str = "fields of b (8) x 0:3 y 4:7 fields of h (16) w 0:15
+    patterns g [ q _ r ] is x = {1 to 3}";
+
 const USAGE: &str = "usage: sledkit dis SPEC MATCH BASE\n";
 
 // Arms of the greatest weight, 8 for each of four parts multiplied; the greatest sum of weights; and one more of each.
@@ -243,6 +246,98 @@ fn conditions_of_declarations(rt: HostRuntime) -> Result<(), Fail> {
             &sound(spec.as_str(), "match", b"\0"),
         )?;
         assert_eq!(rt; found, Status::Refused(8));
+        assert!(rt; out.bytes().is_empty());
+        assert_eq!(rt; notes.bytes(), told.as_bytes());
+    }
+    Ok(())
+}
+
+#[test]
+fn conditions_of_constructors(rt: HostRuntime) -> Result<(), Fail> {
+    // What stands behind the classes and the group; the condition.
+    let rows: [(&str, u64); 35] = [
+        ("c(x, x) is x", 1),
+        ("c(t) is t: x", 1),
+        ("c() is L: x = 1 & (L: y = 2)", 1),
+        ("c() is y: x = 1", 1),
+        ("c(x : b) is x", 1),
+        ("c(y) : x is y", 1),
+        ("c(a : t) : t is a", 1),
+        ("c(b) is x = 1", 2),
+        ("c(y!) is z & y", 2),
+        ("c(a : b) is a", 2),
+        ("c(n) { n = m + x } is x", 2),
+        ("c(n) { n = b! + x } is x", 2),
+        ("c() is d(x)", 2),
+        ("c() is x = 16", 4),
+        ("c() is x = {1 2}", 5),
+        ("c() is x = 1 & w = 1", 6),
+        ("c() is x = 1 ...", 7),
+        ("c() is x = 1 ... ; w = 1", 7),
+        ("c() is x = 1 | w = 1", 8),
+        ("c(x) is x | y = 1", 8),
+        ("c(x) is x & x", 9),
+        ("c(x) is y = 1", 10),
+        ("c(n) is x = 1", 10),
+        ("c() is x", 10),
+        ("c(n) { n = x } is y = 1", 10),
+        ("c(n) { n = g + x } is g & x", 10),
+        ("c(n) { n = x + x } is x", 11),
+        ("c(n) { n = 0 * x } is x", 11),
+        ("c(n) { n = 65537 * x } is x", 11),
+        ("c(n) { n = x@[0:1] } is x", 11),
+        ("c(n) { n@[0:32] = x } is x", 11),
+        ("c(n) { n@[2:1] = x } is x", 11),
+        ("c(n) { n@[0:7] = x, n = x } is x", 11),
+        (
+            "c(n) { n = 1 + 2 + 3 + 4 + 5 + 6 + 7 + 8 + 9 + 10 + 11 + 12 + 13 + 14 + 15 + x } is x",
+            11,
+        ),
+        (
+            "c(o1, o2, o3, o4, o5, o6, o7, o8, o9, o10, o11, o12, o13, o14, o15, o16, o17) { o1 + o2 + o3 + o4 +
+             o5 + o6 + o7 + o8 = x, o9 + o10 + o11 + o12 + o13 + o14 + o15 + o16 + o17 = x } is x",
+            11,
+        ),
+    ];
+    for (constructor, condition) in rows {
+        let spec = format!(in rt.alloc(); "{CLASSES_AND_GROUP} constructors {constructor}")?;
+        let told = format!(in rt.alloc();
+            "s: error 8: declaration 4 does not meet condition {condition}\n"
+        )?;
+        let (found, out, notes) = answer(
+            rt.alloc(),
+            &["dis", "s", "m", "0"],
+            &sound(spec.as_str(), "match", b"\0"),
+        )?;
+        assert_eq!(rt; found, Status::Refused(8));
+        assert!(rt; out.bytes().is_empty());
+        assert_eq!(rt; notes.bytes(), told.as_bytes());
+    }
+    Ok(())
+}
+
+#[test]
+fn constructors_that_are_not_built(rt: HostRuntime) -> Result<(), Fail> {
+    let told = "s: error 90: declaration 4 is not built yet\n";
+    for constructor in [
+        "c(x, y!) : t is x & y",
+        "c() : t is t: x = 1",
+        "c(t) : t { t = x } is x",
+        "g(y) is g & y",
+        "c(n) { 65536 * x - 3 = n } is x",
+        "c(v) { v@[0:3] = x, v@[4:7] = y! } is x & y",
+        "c(n) { n = L + 4 * x } is y = 1 ; L: x",
+        "c(n) { n = 1 + 2 + 3 + 4 + 5 + 6 + 7 + 8 + 9 + 10 + 11 + 12 + 13 + 14 + x } is x",
+        "c(o1, o2, o3, o4, o5, o6, o7, o8, o9, o10, o11, o12, o13, o14, o15, o16) { o1 + o2 + o3 + o4 +
+         o5 + o6 + o7 + o8 = x, o9 + o10 + o11 + o12 + o13 + o14 + o15 + o16 = x } is x",
+    ] {
+        let spec = format!(in rt.alloc(); "{CLASSES_AND_GROUP} constructors {constructor}")?;
+        let (found, out, notes) = answer(
+            rt.alloc(),
+            &["dis", "s", "m", "0"],
+            &sound(spec.as_str(), "match", b"\0"),
+        )?;
+        assert_eq!(rt; found, Status::Refused(90));
         assert!(rt; out.bytes().is_empty());
         assert_eq!(rt; notes.bytes(), told.as_bytes());
     }

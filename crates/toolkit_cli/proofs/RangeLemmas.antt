@@ -1,6 +1,7 @@
 -- Each Number in the trees of a text is at most the greatest, since each in the text is.
-use Rattle.std.proofs.Common.{◌≡◌, ℕ, ◌≤◌, Bool, true, false, ◌&&◌, List, [], ◌∷◌, ◌++◌, map, All, refl, sym, ap, ◌∙◌, subst, arith}
+use Rattle.std.proofs.Common.{◌≡◌, ℕ, ◌≤◌, Bool, true, false, ◌&&◌, Option, Some, None, List, [], ◌∷◌, ◌++◌, map, All, refl, sym, ap, ◌∙◌, subst, arith}
 use Rattle.std.specs.List.{flat_map, list_all}
+use Rattle.std.specs.Option.{option_map_or}
 use Rattle.std.specs.Prelude.{nat_le}
 use Rattle.std.proofs.lemmas.Bool.Decides.{nat_tests}
 use Rattle.std.proofs.lemmas.List.Elements.{All-nil, All-cons}
@@ -20,18 +21,25 @@ use Rattle.sled_parser.specs.declared.tree.PatternTree.{PatternTree, roll-Patter
 use Rattle.sled_parser.specs.declared.tree.PatternTree.TheOpen.{PatternTree-F}
 use Rattle.sled_parser.specs.declared.tree.PatternTree.TheOpen as one
 use Rattle.sled_parser.specs.declared.tree.PatternTree.TheVariants as tree
+use Rattle.sled_parser.specs.declared.tree.PlaceTree.{PlaceTree}
+use Rattle.sled_parser.specs.declared.tree.PlaceTree.TheVariants as place
+use Rattle.sled_parser.specs.declared.tree.TermTree.{TermTree}
+use Rattle.sled_parser.specs.declared.tree.TermTree.TheVariants as term
+use Rattle.sled_parser.specs.declared.tree.EqTree.{EqTree}
 use Rattle.sled_parser.specs.declared.tree.ArmTree.{ArmTree}
 use Rattle.sled_parser.specs.declared.tree.ArmsTree.{ArmsTree}
 use Rattle.sled_parser.specs.declared.tree.ArmsTree.TheVariants as arms
 use Rattle.sled_parser.specs.declared.tree.MatchTree.{MatchTree}
 use Rattle.sled_parser.specs.Pieces.{Piece, piece, pieces}
 use Rattle.sled_parser.specs.Trees.{piece_for, number, followed, join, relation_piece, value_spelling, spelling}
-use Rattle.sled_parser.specs.Declarations.{items_spelling, decl_spelling, description_spelling, IsDescription}
+use Rattle.sled_parser.specs.Equations.{place_spelling, is_minus, coefficient_spelling, term_spelling, first_sign, later_sign, first_spelling, later_spelling, terms_spelling, sum_spelling, equation_spelling}
+use Rattle.sled_parser.specs.Declarations.{items_spelling, operand_spelling, result_spelling, equations_spelling, decl_spelling, description_spelling, IsDescription}
 use Rattle.sled_parser.specs.Statements.{quoted, arm_spelling, arms_spelling, skip_spelling, statement_spelling, IsStatement}
 use Rattle.sled_parser.proofs.TreeLaws.{spelling_roll}
 use Rattle.tree_meaning.specs.Values.{is_in_range, has_numbers_in_range}
 use Rattle.tree_meaning.specs.Patterns.{has_part_in_range, has_all_in_range}
 use Rattle.tree_meaning.proofs.PartLemmas.{everywhere-Either, everywhere-Chain, everywhere-Both, everywhere-Labelled, everywhere-Loose, everywhere-Group}
+use Rattle.operand_meaning.specs.Terms.{is_place_in_range, is_term_in_range, is_equation_in_range, have_equations_in_range}
 use Rattle.sled_elab.specs.Descriptions.{HasNumbersInRange, HasArmInRange, HaveArmsInRange}
 
 and_left : (s r : Bool) → (s && r) ≡ true → s ≡ true
@@ -138,13 +146,67 @@ layer_in_range (one.Apply w args) h = ap has_all_in_range (tree.rolls-Apply w ar
 pattern_in_range : (t : PatternTree) → IsInRange t
 pattern_in_range = ind-PatternTree IsInRange (λ x y is. subst (λ z. IsInRange (roll-PatternTree z)) is (layer_in_range y))
 
+-- ---- equations
+
+place_in_range : (p : PlaceTree) → all_in_range (place_spelling p) ≡ true → is_place_in_range p ≡ true
+place_in_range (place.Word w) h = refl
+place_in_range (place.Extended w) h = refl
+place_in_range (place.Slice w lo hi) h = and_both _ _ (and_left (is_in_range lo) _ h) (and_left (is_in_range hi) true (and_right (is_in_range lo) _ h))
+
+coefficient_in_range : (c : Option (List ℕ)) → all_in_range (coefficient_spelling c) ≡ true → option_map_or is_in_range c true ≡ true
+coefficient_in_range None h = refl
+coefficient_in_range (Some n) h = and_left (is_in_range n) true h
+
+term_in_range : (t : TermTree) → all_in_range (term_spelling t) ≡ true → is_term_in_range t ≡ true
+term_in_range (term.Number minus n) h = and_left (is_in_range n) true h
+term_in_range (term.Place minus c p) h =
+    let both = split (coefficient_spelling c) (place_spelling p) h in
+    and_both _ _ (coefficient_in_range c both.0) (place_in_range p both.1)
+
+later_in_range : (ts : List TermTree) → all_in_range (flat_map later_spelling ts) ≡ true → list_all is_term_in_range ts ≡ true
+later_in_range [] h = refl
+later_in_range (t ∷ ts) h =
+    let both = split (later_spelling t) (flat_map later_spelling ts) h in
+    and_both _ _ (term_in_range t (and_right (piece_in_range (later_sign (is_minus t))) _ both.0)) (later_in_range ts both.1)
+
+terms_in_range : (ts : List TermTree) → all_in_range (terms_spelling ts) ≡ true → list_all is_term_in_range ts ≡ true
+terms_in_range [] h = refl
+terms_in_range (t ∷ ts) h =
+    let both = split (first_spelling t) (flat_map later_spelling ts) h in
+    and_both _ _ (term_in_range t (split (first_sign (is_minus t)) (term_spelling t) both.0).1) (later_in_range ts both.1)
+
+equation_in_range : (e : EqTree) → all_in_range (equation_spelling e) ≡ true → is_equation_in_range e ≡ true
+equation_in_range e h =
+    let both = split (sum_spelling e.left) (piece_for class.Equal ∷ sum_spelling e.right) h in
+    list_all-append is_term_in_range e.left.terms e.right.terms ∙ and_both _ _ (terms_in_range e.left.terms both.0) (terms_in_range e.right.terms both.1)
+
+followed_in_range : (es : List EqTree) → all_in_range (followed (piece_for class.Comma) (map equation_spelling es)) ≡ true → have_equations_in_range es ≡ true
+followed_in_range [] h = refl
+followed_in_range (e ∷ es) h =
+    let both = split (equation_spelling e) (followed (piece_for class.Comma) (map equation_spelling es)) h in
+    and_both _ _ (equation_in_range e both.0) (followed_in_range es both.1)
+
+equations_in_range : (es : List EqTree) → all_in_range (equations_spelling es) ≡ true → have_equations_in_range es ≡ true
+equations_in_range [] h = refl
+equations_in_range (e ∷ es) h =
+    let others = followed (piece_for class.Comma) (map equation_spelling es) in
+    let both = split (equation_spelling e) others (split (equation_spelling e ++ others) (piece_for class.CloseBrace ∷ []) h).0 in
+    and_both _ _ (equation_in_range e both.0) (followed_in_range es both.1)
+
 -- ---- declarations
 
 decl_in_range : (d : Decl) → all_in_range (decl_spelling d) ≡ true → HasNumbersInRange d
 decl_in_range (decl.Class name width little fields) h = tt
 decl_in_range (decl.Heading section) h = tt
 decl_in_range (decl.Definition name items pattern) h = pattern_in_range pattern (split (items_spelling items) (piece_for class.Is ∷ spelling pattern) h).1
-decl_in_range (decl.ConstructorDecl opcode operands result equations body) h = tt
+decl_in_range (decl.ConstructorDecl opcode operands result equations body) h =
+    let after_equations = piece_for class.Is ∷ spelling body in
+    let after_result = equations_spelling equations ++ after_equations in
+    let after_operands = piece_for class.Close ∷ (result_spelling result ++ after_result) in
+    let of_result = (split (join (piece_for class.Comma) (map operand_spelling operands)) after_operands h).1 in
+    let of_equations = (split (result_spelling result) after_result of_result).1 in
+    let both = split (equations_spelling equations) after_equations of_equations in
+    (pattern_in_range body both.1, equations_in_range equations both.0)
 
 decls_in_range : (ds : List Decl) → all_in_range (description_spelling ds) ≡ true → All HasNumbersInRange ds
 decls_in_range [] h = All-nil HasNumbersInRange

@@ -15,7 +15,8 @@ use Rattle.tree_meaning.specs.Patterns.{patterns_of}
 use Rattle.tree_meaning.specs.Scopes.{Declared, declared_in}
 use Rattle.tree_meaning.proofs.PartLaws.{all_parts}
 use Rattle.sled_elab.specs.Actions.{unquoted, action_pieces}
-use Rattle.sled_elab.specs.Conditions.{first_unmet, arm_forming_conditions}
+use Rattle.sled_elab.specs.Conditions.{arm_forming_conditions}
+use Rattle.constructor_meaning.specs.Unmet.{first_unmet}
 use Rattle.sled_elab.specs.Declarations.{first_of}
 use Rattle.sled_elab.specs.Statements.{arm_names, arm_pattern}
 use Rattle.sled_elab.proofs.ArmLemmas.{IsFormed, arm_lack-applies, arm_lack-naming, arm_lack-forming, arm_lack-action, arm_lack-none, arm_plain, forming_met, measure_within, capped_small, plain_arm}

@@ -1,7 +1,7 @@
-use Rattle.std.proofs.Common.{◌∙◌, sym, arith}
-use Rattle.sled_elab.specs.Declarations.{nothing}
+use Rattle.std.proofs.Common.{◌∙◌, take, refl, sym, ap, arith}
+use Rattle.sled_elab.specs.Declarations.{Described, nothing}
 use Rattle.sled_elab.specs.Descriptions.{described_in}
-use Rattle.sled_elab.proofs.DeclarationLemmas.{made_more, lack_past, next_within}
+use Rattle.sled_elab.proofs.DeclarationLemmas.{made_more, lack_past, next_within, untyped}
 use Rattle.sled_elab.proofs.declarations.describe.Goals as goal
 
 pub loop-decl-preserved : goal.loop-decl-preserved
@@ -16,3 +16,7 @@ loop-decl-preserved c =
           ∙ lack_past decls i x c.loop-decl-test.true c.decl-item.is c.loop-decl.number c.next_number-number.result old new made c.next_number-number.ensures (sym c.in_ok-lack.ensures.lack ∙ c.in_default.is);
       small = omega (arith, c.next_number-number.ensures, next_within c.loop-decl.number x, c.loop-decl.invariant.small);
     }
+
+pub declare-requires-clause-untyped : goal.declare-requires-clause-untyped
+declare-requires-clause-untyped c =
+    ap (λ (d : Described). d.spec.type_names) c.loop-decl.invariant.made ∙ untyped nothing (take c.loop-decl.decl-index c.args.decls.now) refl
