@@ -27,8 +27,7 @@ use Rattle.operand_meaning.specs.Operands.{operand_name, explicit_names}
 use Rattle.operand_meaning.proofs.ListFacts.{both_of, not_true, all-flat_map, all_weaker}
 use Rattle.constructor_scopes.specs.Bodies.{if_typed, typed_from, typed_operands, with_operands, with_member}
 use Rattle.constructor_scopes.proofs.BodySound.{as_many_meanings, inner}
-use Rattle.constructor_scopes.proofs.MemberLemmas.{not_among}
-use Rattle.constructor_scopes.proofs.NewLemmas.{suc_below, below_suc}
+use Rattle.constructor_scopes.proofs.MemberLemmas.{among_more, not_among}
 use Rattle.constructor_plans.specs.Named.{BindsNothing, PatternsBindNothing}
 
 -- ---- the number of the field of a name
@@ -46,36 +45,6 @@ field_meaning (Some (meaning.Field g)) f is = let same : g ≡ f = cc in ap (λ 
 field_meaning (Some _) f is = cc
 
 -- ---- one local name more
-
-behind : (t : Bool) (l : ℕ) (m : Meaning) (ms : List Meaning) → option_and_then (slice_get (m ∷ ms)) (cond t (Some (suc l)) None) ≡ option_and_then (slice_get ms) (cond t (Some l) None)
-behind true l m ms = refl
-behind false l m ms = refl
-
-first_case : (t : Bool) (l n : ℕ) (m : Meaning) (ms : List Meaning)
-    → option_and_then (slice_get (m ∷ ms)) (cond (nat_lt (cond (not t) (1 + l) 0) (suc n)) (Some (cond (not t) (1 + l) 0)) None)
-    ≡ cond t (Some m) (option_and_then (slice_get ms) (cond (nat_lt l n) (Some l) None))
-first_case true l n m ms = ap (λ t. option_and_then (slice_get (m ∷ ms)) (cond t (Some 0) None)) (below_suc n)
-first_case false l n m ms =
-    ap (λ k. option_and_then (slice_get (m ∷ ms)) (cond (nat_lt k (suc n)) (Some k) None)) (let e : 1 + l ≡ suc l = omega arith in e)
-    ∙ ap (λ t. option_and_then (slice_get (m ∷ ms)) (cond t (Some (suc l)) None)) (suc_below l n (nat_lt l n) refl) ∙ behind (nat_lt l n) l m ms
-
-among_first : (n : List ℕ) (ns : List (List ℕ)) (m : Meaning) (ms : List Meaning) (w : List ℕ)
-    → meaning_among (n ∷ ns) (m ∷ ms) w ≡ cond (bytes_eq w n) (Some m) (meaning_among ns ms w)
-among_first n ns m ms w = first_case (bytes_eq w n) (position_or_len (bytes_eq w) ns) (length ns) m ms
-
-or_later : (t : Bool) (m : Meaning) (o later : Option Meaning) → cond t (Some m) (option_or o later) ≡ option_or (cond t (Some m) o) later
-or_later true m o later = refl
-or_later false m o later = refl
-
-among_more : (ns : List (List ℕ)) (ms : List Meaning) (n : List ℕ) (m : Meaning) (w : List ℕ) → length ns ≡ length ms
-    → meaning_among (ns ++ n ∷ []) (ms ++ m ∷ []) w ≡ option_or (meaning_among ns ms w) (cond (bytes_eq w n) (Some m) None)
-among_more [] [] n m w h = among_first n [] m [] w
-among_more [] (y ∷ ms) n m w h = absurd (omega arith)
-among_more (x ∷ ns) [] n m w h = absurd (omega arith)
-among_more (x ∷ ns) (y ∷ ms) n m w h =
-    let last : Option Meaning = cond (bytes_eq w n) (Some m) None in
-    among_first x (ns ++ n ∷ []) y (ms ++ m ∷ []) w ∙ ap (cond (bytes_eq w x) (Some y)) (among_more ns ms n m w (omega arith))
-    ∙ or_later (bytes_eq w x) y (meaning_among ns ms w) last ∙ ap (λ o. option_or o last) (sym (among_first x ns y ms w))
 
 or_none : (o : Option Meaning) → option_or o None ≡ o
 or_none None = refl

@@ -84,7 +84,7 @@ module _ (d s : Declared) (names : List (List ℕ)) (number : List ℕ → Optio
 
   mutual
     -- where nothing is bound, no field stands bare
-    none_bare : (t : PatternTree) → bound s t ≡ [] → All (Has []) (patterns_of d names t)
+    pub none_bare : (t : PatternTree) → bound s t ≡ [] → All (Has []) (patterns_of d names t)
     none_bare (Either' a ts) none =
         All-map (Has []) pattern.Either (choices (row_patterns d names ts))
         (All-weaker (AllHave []) (λ ps. Has [] (pattern.Either ps)) (λ ps h. fields-Either ps ∙ h) (choices (row_patterns d names ts)) (rows_none ts (none_of_union (row_bound s ts) none)))

@@ -42,7 +42,7 @@ or_later true m o later = refl
 or_later false m o later = refl
 
 -- one name more
-among_more : (ns : List (List ℕ)) (ms : List Meaning) (n : List ℕ) (m : Meaning) (w : List ℕ) → length ns ≡ length ms
+pub among_more : (ns : List (List ℕ)) (ms : List Meaning) (n : List ℕ) (m : Meaning) (w : List ℕ) → length ns ≡ length ms
     → meaning_among (ns ++ n ∷ []) (ms ++ m ∷ []) w ≡ option_or (meaning_among ns ms w) (cond (bytes_eq w n) (Some m) None)
 among_more [] [] n m w h = among_first n [] m [] w
 among_more [] (y ∷ ms) n m w h = absurd (omega arith)

@@ -1,12 +1,13 @@
 -- What declarations make and lack, one after another.
-use Rattle.std.proofs.Common.{◌≡◌, ℕ, ◌+◌, ◌<◌, ◌≤◌, List, [], ◌∷◌, ◌++◌, length, take, drop, get_or, None, refl, sym, ap, ◌∙◌, arith}
-use Rattle.std.specs.Prelude.{fold}
+use Rattle.std.proofs.Common.{◌≡◌, ℕ, ◌+◌, ◌<◌, ◌≤◌, List, [], ◌∷◌, ◌++◌, length, take, drop, get_or, Some, None, refl, sym, ap, subst, ◌∙◌, arith}
+use Rattle.std.specs.Prelude.{Option, fold}
 use Rattle.sled_parser.specs.declared.tree.FieldTree.{FieldTree}
 use Rattle.sled_parser.specs.declared.tree.Decl.{Decl}
 use Rattle.sled_parser.specs.declared.tree.Decl.TheVariants as decl
 use Rattle.tree_meaning.proofs.ListLemmas.{drop-here, take-here}
-use Rattle.sled_elab.specs.Conditions.{first_lack, next_number, decl_lack, decls_lack}
-use Rattle.sled_elab.specs.Declarations.{Described, with_class_alone, with_field}
+use Rattle.sled_elab.specs.declared.lack.Lack.{Lack}
+use Rattle.sled_elab.specs.Conditions.{IsLackOf, IsFirstLackFrom, next_number}
+use Rattle.sled_elab.specs.Declarations.{Described}
 use Rattle.sled_elab.specs.Elaboration.{after}
 
 fold_push : {A B : Type 0} (f : B → A → B) (z : B) (xs : List A) (x : A) → fold f z (xs ++ x ∷ []) ≡ f (fold f z xs) x
@@ -29,25 +30,18 @@ module _ (decls : List Decl) (i : ℕ) (x : Decl) (here : i < length decls) (is 
       made ∙ ap (λ d. after d x) before ∙ sym (fold_push after start (take i decls) x) ∙ ap (fold after start) (sym (take-here decls i x here is))
 
   -- a declaration that lacks nothing is passed
-  pub lack_past : (n m : ℕ) (old new : Described) → new ≡ after old x → m ≡ next_number n x → decl_lack old x ≡ None → decls_lack n old (drop i decls) ≡ decls_lack m new (drop (i + 1) decls)
-  lack_past n m old new made next none =
+  pub lack_past : (n m : ℕ) (old new : Described) (first : Option (ℕ × Lack)) → new ≡ after old x → m ≡ next_number n x → IsLackOf old x None
+      → IsFirstLackFrom m new (drop (i + 1) decls) first → IsFirstLackFrom n old (drop i decls) first
+  lack_past n m old new first made next none later =
       let rest = drop (i + 1) decls in
-      ap (decls_lack n old) from_here ∙ ap (λ o. first_lack n o (decls_lack (next_number n x) (after old x) rest)) none
-      ∙ ap (λ k. decls_lack k (after old x) rest) (sym next) ∙ ap (λ d. decls_lack m d rest) (sym made)
+      let at_number : IsFirstLackFrom (next_number n x) new rest first = subst (λ k. IsFirstLackFrom k new rest first) next later in
+      let over : IsFirstLackFrom (next_number n x) (after old x) rest first = subst (λ d. IsFirstLackFrom (next_number n x) d rest first) made at_number in
+      subst (λ ds. IsFirstLackFrom n old ds first) (sym from_here) (None, none, over)
 
--- ---- types
+  -- one that lacks something is the first
+  pub lack_here : (n : ℕ) (old : Described) (lack : Lack) → IsLackOf old x (Some lack) → IsFirstLackFrom n old (drop i decls) (Some (n, lack))
+  lack_here n old lack lacks = subst (λ ds. IsFirstLackFrom n old ds (Some (n, lack))) (sym from_here) (Some lack, lacks, refl)
 
-fields_untyped : (c : ℕ) (d : Described) (fields : List FieldTree) → (fold (with_field c) d fields).spec.type_names ≡ d.spec.type_names
-fields_untyped c d [] = refl
-fields_untyped c d (f ∷ fs) = fields_untyped c (with_field c d f) fs
-
-after_untyped : (d : Described) (x : Decl) → (after d x).spec.type_names ≡ d.spec.type_names
-after_untyped d (decl.Class name width little fields) = fields_untyped (length d.spec.tokens.classes) (with_class_alone d name width little) fields
-after_untyped d (decl.Heading section) = refl
-after_untyped d (decl.Definition name items tree) = refl
-after_untyped d (decl.ConstructorDecl opcode operands makes equations body) = refl
-
--- no declaration that lacks nothing declares a type
-pub untyped : (start : Described) (decls : List Decl) → start.spec.type_names ≡ [] → (fold after start decls).spec.type_names ≡ []
-untyped start [] none = none
-untyped start (x ∷ xs) none = untyped (after start x) xs (after_untyped start x ∙ none)
+-- behind the last there is none
+pub lack_end : (n : ℕ) (d : Described) (ds : List Decl) → ds ≡ [] → IsFirstLackFrom n d ds None
+lack_end n d ds none = subst (λ xs. IsFirstLackFrom n d xs None) (sym none) refl

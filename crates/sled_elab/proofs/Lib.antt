@@ -8,3 +8,7 @@ pub mod StatementLemmas
 pub mod DefinitionLemmas
 pub mod DefinitionSound
 pub mod DeclarationLemmas
+pub mod PlainNames
+pub mod TableLemmas
+pub mod LackLaws
+pub mod MadeConstructors

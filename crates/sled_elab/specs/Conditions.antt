@@ -1,5 +1,5 @@
 -- What a description and a statement have to meet, in the order of the conditions' numbers, and the first that they lack.
-use Rattle.std.specs.Prelude.{ℕ, ◌+◌, Bool, not, ◌&&◌, ◌||◌, ◌==◌, nat_le, nat_lt, List, [], ◌∷◌, ◌++◌, length, Option, Some, None, is_some, option_map, if◌then◌else◌}
+use Rattle.std.specs.Prelude.{◌≡◌, ℕ, ◌+◌, Bool, not, ◌&&◌, ◌||◌, ◌==◌, nat_le, nat_lt, List, [], ◌∷◌, ◌++◌, length, Option, Some, None, is_some, option_map, if◌then◌else◌}
 use Rattle.std.specs.List.{list_all}
 use Rattle.sled_lexer.specs.Spelled.{number_value}
 use Rattle.sled_parser.specs.declared.tree.Decl.{Decl}
@@ -21,15 +21,15 @@ use Rattle.tree_meaning.specs.Parts.{are_known, numbers_fit, generates_nothing, 
 use Rattle.tree_meaning.specs.declared.parts.Site.TheVariants as site
 use Rattle.tree_meaning.specs.Bindings.{bound, binds_once, sides_bind_alike, sides_bind_nothing, are_none}
 use Rattle.tree_meaning.specs.Patterns.{patterns_of}
-use Rattle.sled_parser.specs.declared.tree.OperandTree.{OperandTree}
-use Rattle.sled_parser.specs.declared.tree.EqTree.{EqTree}
-use Rattle.constructor_meaning.specs.Conditions.{conditions as constructor_conditions}
+use Rattle.constructor_meaning.specs.Conditions.{bodies, measure_conditions, conditions as constructor_conditions}
 use Rattle.constructor_meaning.specs.Constructing.{Constructing}
 use Rattle.constructor_meaning.specs.Unmet.{first_unmet}
+use Rattle.constructor_building.specs.Building.{constructors_of}
+use Rattle.constructor_plans.specs.Plans.{ArePlansUnmet}
 use Rattle.sled_elab.specs.declared.lack.Lack.{Lack}
 use Rattle.sled_elab.specs.declared.lack.Lack.TheVariants.{Condition, NotBuilt}
 use Rattle.sled_elab.specs.Actions.{unquoted, action_pieces}
-use Rattle.sled_elab.specs.Declarations.{Described, nothing, class_names, definition_names, item_names, labels_are_new}
+use Rattle.sled_elab.specs.Declarations.{Described, nothing, class_names, definition_names, item_names, labels_are_new, constructor_tree}
 use Rattle.sled_elab.specs.Elaboration.{after}
 use Rattle.sled_elab.specs.Statements.{arm_names, arm_pattern}
 
@@ -93,25 +93,36 @@ forming_conditions d tree ps =
 abbrev pub definition_conditions : Described → List ℕ → Option (List ItemTree) → PatternTree → List (ℕ × Bool)
 definition_conditions d name items tree = naming_conditions d name items tree ++ forming_conditions d tree (patterns_of d.declared [] tree)
 
--- the declaration of a constructor, in its parts
-abbrev pub constructor_tree : List ℕ → List OperandTree → Option (List ℕ) → List EqTree → PatternTree → Constructing
-constructor_tree opcode operands makes equations body = record { opcode = opcode; operands = operands; result = makes; equations = equations; body = body }
+-- ---- conditions of a constructor
 
--- a constructor that meets each condition that is asked before its equations are solved is not built
-abbrev pub unmet_or_not_built : Option ℕ → Option Lack
-unmet_or_not_built None = Some NotBuilt
-unmet_or_not_built (Some n) = Some (Condition n)
+-- What is unmet of the constructors that are made, where this is what their plans do not meet of conditions 12 and 13: that, or else the first
+-- of 14 and 15.
+abbrev pub unmet_made : Described → Constructing → Option ℕ → Option ℕ
+unmet_made d c None = first_unmet (measure_conditions d.spec d.declared c (bodies d.declared c))
+unmet_made d c (Some n) = Some n
 
--- what the declaration of a constructor lacks
-abbrev pub constructor_lack : Described → Constructing → Option Lack
-constructor_lack d c = unmet_or_not_built (first_unmet (constructor_conditions d.spec d.declared c))
+abbrev pub IsUnmetMade : Described → Constructing → Option ℕ → Type 0
+IsUnmetMade d c unmet = (plans : Option ℕ) × ArePlansUnmet d.spec.tokens (constructors_of d.spec d.declared c) plans × (unmet ≡ unmet_made d c plans)
 
--- what a declaration lacks, over those before it
-abbrev pub decl_lack : Described → Decl → Option Lack
-decl_lack d (decl.Class name width little fields) = unmet_lack (class_conditions d name width fields)
-decl_lack d (decl.Heading section) = None
-decl_lack d (decl.Definition name items tree) = unmet_lack (definition_conditions d name items tree)
-decl_lack d (decl.ConstructorDecl opcode operands makes equations body) = constructor_lack d (constructor_tree opcode operands makes equations body)
+-- behind the conditions that are asked before equations are solved, of which this is the first that is unmet
+abbrev pub IsUnmetBehind : Described → Constructing → Option ℕ → Option ℕ → Type 0
+IsUnmetBehind d c None unmet = IsUnmetMade d c unmet
+IsUnmetBehind d c (Some n) unmet = unmet ≡ Some n
+
+-- The first condition that the declaration of a constructor does not meet. That each equation gives an operand a value in range, whatever
+-- the fields are (13), is a statement on all values and no test, so that this is a relation; `lack_one` of `proofs/LackLaws.antt` says that
+-- it holds of one answer at most.
+abbrev pub IsUnmetOf : Described → Constructing → Option ℕ → Type 0
+IsUnmetOf d c unmet = IsUnmetBehind d c (first_unmet (constructor_conditions d.spec d.declared c)) unmet
+
+-- ---- what a declaration lacks, over those before it
+
+abbrev pub IsLackOf : Described → Decl → Option Lack → Type 0
+IsLackOf d (decl.Class name width little fields) lack = lack ≡ unmet_lack (class_conditions d name width fields)
+IsLackOf d (decl.Heading section) lack = lack ≡ None
+IsLackOf d (decl.Definition name items tree) lack = lack ≡ unmet_lack (definition_conditions d name items tree)
+IsLackOf d (decl.ConstructorDecl opcode operands makes equations body) lack =
+    (unmet : Option ℕ) × IsUnmetOf d (constructor_tree opcode operands makes equations body) unmet × (lack ≡ option_map Condition unmet)
 
 -- ---- conditions of arms
 
@@ -179,14 +190,19 @@ abbrev pub next_number : ℕ → Decl → ℕ
 next_number n (decl.Heading section) = n
 next_number n _ = n + 1
 
--- from declaration number n on, each over those before it
-abbrev pub decls_lack : ℕ → Described → List Decl → Option (ℕ × Lack)
-decls_lack n d [] = None
-decls_lack n d (x ∷ xs) = first_lack n (decl_lack d x) (decls_lack (next_number n x) (after d x) xs)
+-- number n with what it lacks, where it lacks something, or else what is the first later
+abbrev pub IsFirstOr : ℕ → Option Lack → Option (ℕ × Lack) → Type 0 → Type 0
+IsFirstOr n None first later = later
+IsFirstOr n (Some l) first later = first ≡ Some (n, l)
+
+-- the first that lacks something from declaration number n on, each over those before it
+abbrev pub IsFirstLackFrom : ℕ → Described → List Decl → Option (ℕ × Lack) → Type 0
+IsFirstLackFrom n d [] first = first ≡ None
+IsFirstLackFrom n d (x ∷ xs) first = (lack : Option Lack) × IsLackOf d x lack × IsFirstOr n lack first (IsFirstLackFrom (next_number n x) (after d x) xs first)
 
 -- the first declaration that lacks something, and what it lacks
-abbrev pub description_lack : List Decl → Option (ℕ × Lack)
-description_lack decls = decls_lack 1 nothing decls
+abbrev pub IsDescriptionLack : List Decl → Option (ℕ × Lack) → Type 0
+IsDescriptionLack decls first = IsFirstLackFrom 1 nothing decls first
 
 -- from arm number n on, where those before it weigh so much; the tail counts as the arm past the last
 abbrev pub arms_lack : Spec → Declared → ℕ → ℕ → List ArmTree → Option (List ℕ) → Option (ℕ × Lack)

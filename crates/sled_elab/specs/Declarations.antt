@@ -1,8 +1,10 @@
--- What the declarations of classes, patterns and groups make.
+-- What each kind of declaration makes.
 use Rattle.std.specs.Prelude.{ℕ, Bool, true, false, List, [], ◌∷◌, ◌++◌, length, map, fold, Option, Some, None, if◌then◌else◌}
 use Rattle.std.specs.List.{flat_map}
 use Rattle.sled_lexer.specs.Spelled.{number_value}
 use Rattle.sled_parser.specs.declared.tree.FieldTree.{FieldTree}
+use Rattle.sled_parser.specs.declared.tree.OperandTree.{OperandTree}
+use Rattle.sled_parser.specs.declared.tree.EqTree.{EqTree}
 use Rattle.sled_parser.specs.declared.tree.ItemTree.{ItemTree}
 use Rattle.sled_parser.specs.declared.tree.ItemTree.TheVariants as item
 use Rattle.sled_parser.specs.declared.tree.PatternTree.{PatternTree}
@@ -18,6 +20,8 @@ use Rattle.tree_meaning.specs.Names.{are_new}
 use Rattle.tree_meaning.specs.Parts.{labels}
 use Rattle.tree_meaning.specs.Scopes.{Declared}
 use Rattle.tree_meaning.specs.Patterns.{patterns_of}
+use Rattle.constructor_meaning.specs.Constructing.{Constructing}
+use Rattle.constructor_building.specs.Building.{built_spec, built_declared}
 
 -- a description, and what its names stand for
 pub record Described : Type 0 where
@@ -126,3 +130,13 @@ with_patterns declared name (Some items) ps =
 
 abbrev pub with_definition : Described → List ℕ → Option (List ItemTree) → PatternTree → Described
 with_definition d name items tree = record { spec = d.spec; declared = with_patterns d.declared name items (patterns_of d.declared [] tree) }
+
+-- ---- constructors
+
+-- the declaration of a constructor, in its parts
+abbrev pub constructor_tree : List ℕ → List OperandTree → Option (List ℕ) → List EqTree → PatternTree → Constructing
+constructor_tree opcode operands makes equations body = record { opcode = opcode; operands = operands; result = makes; equations = equations; body = body }
+
+-- the constructors that it makes more, and their type where its name is new
+abbrev pub with_built : Described → Constructing → Described
+with_built d c = record { spec = built_spec d.spec d.declared c; declared = built_declared d.spec d.declared c }

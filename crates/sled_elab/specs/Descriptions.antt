@@ -10,12 +10,13 @@ use Rattle.sled_model.specs.Specs.{IsSpec, names_of}
 use Rattle.tree_meaning.specs.declared.scope.Meaning.{Meaning}
 use Rattle.tree_meaning.specs.declared.scope.Meaning.TheVariants as meaning
 use Rattle.tree_meaning.specs.Names.{is_among, are_distinct}
-use Rattle.tree_meaning.specs.Scopes.{declared_in}
+use Rattle.tree_meaning.specs.Scopes.{Declared, declared_in}
 use Rattle.tree_meaning.specs.Sound.{IsSoundMeaning}
 use Rattle.tree_meaning.specs.Patterns.{has_all_in_range}
 use Rattle.operand_meaning.specs.Terms.{have_equations_in_range}
 use Rattle.sled_elab.specs.declared.description.Description.{Description}
 use Rattle.constructor_meaning.specs.Sound.{IsSoundScope}
+use Rattle.constructor_plans.specs.Named.{FieldsAreNamed, PatternsBindNothing}
 use Rattle.sled_elab.specs.Declarations.{Described}
 
 -- what a description and its scope hold
@@ -25,6 +26,11 @@ described_in d = record { spec = d.spec; declared = declared_in d.scope }
 -- the description and its scope are sound
 abbrev pub IsSound : Described → Type 0
 IsSound d = IsSoundScope d.spec d.declared
+
+-- each field has one name, and in no pattern that a name stands for does a field stand bare
+pub record HasPlainNames (declared : Declared) : Type 0 where
+  pub fields : FieldsAreNamed declared
+  pub patterns : PatternsBindNothing declared
 
 -- each Number of a declaration's pattern and of its equations is at most 4,294,967,295, as each in a text is
 abbrev pub HasNumbersInRange : Decl → Type 0

@@ -6,6 +6,11 @@ use Rattle.sled_elab.specs.declared.lack.ArmFault.TheVariants as arm
 use Rattle.sled_elab.specs.declared.lack.ElabFault.{ElabFault}
 use Rattle.sled_elab.specs.declared.lack.ElabFault.TheVariants as fault
 
+-- the refusal names what this holds of
+abbrev pub IsRefusedBy : (Option (ℕ × Lack) → Type 0) → ElabFault → Type 0
+IsRefusedBy IsFirst (fault.Lacks number lack) = IsFirst (Some (number, lack))
+IsRefusedBy IsFirst fault.NoMemory = Unit {0}
+
 -- the refusal names the first that lacks something
 abbrev pub IsRefusedAt : ElabFault → Option (ℕ × Lack) → Type 0
 IsRefusedAt (fault.Lacks number lack) first = first ≡ Some (number, lack)

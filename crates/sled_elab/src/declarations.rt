@@ -1,13 +1,14 @@
 // What declarations make, one after another.
-ghost use Rattle.std.specs.Prelude.{◌≡◌, ◌<◌, ◌^◌, [], All, None, IfOk, IfErr};
-ghost use Rattle.sled_elab.specs.Conditions.{decl_lack, description_lack, next_number as next_number_of};
-ghost use Rattle.sled_elab.specs.Descriptions.{described_in, HasNumbersInRange, IsSound};
+ghost use Rattle.std.specs.Prelude.{◌≡◌, ◌<◌, ◌^◌, All, None, IfOk, IfErr, option_map};
+ghost use Rattle.sled_elab.specs.Conditions.{IsLackOf, IsDescriptionLack, next_number as next_number_of};
+ghost use Rattle.sled_elab.specs.Descriptions.{described_in, HasNumbersInRange, HasPlainNames, IsSound};
 ghost use Rattle.sled_elab.specs.Elaboration.{after, described, spec_of};
-ghost use Rattle.sled_elab.specs.Refusals.{IsRefusedAt};
+ghost use Rattle.sled_elab.specs.Refusals.{IsRefusedBy};
 ghost use Rattle.tree_meaning.specs.Scopes.{declared_in};
+ghost use Rattle.type_tables.specs.Tables.{IsTableOf};
 
 use crate::class::declare_class;
-use crate::constructor::constructor_lack;
+use crate::constructor::declare_constructor;
 use crate::definition::declare_definition;
 use crate::description::Description;
 use crate::lack::{ElabFault, Lack};
@@ -17,6 +18,7 @@ use sled_model::Spec;
 use sled_parser::tree::Decl;
 use std::alloc::Global;
 use tree_meaning::Scope;
+use type_tables::TypeTable;
 
 /// The description that the declarations make, with what its names stand for, or the first declaration that lacks something. Each
 /// Number in the trees is at most 4,294,967,295.
@@ -24,13 +26,14 @@ pub fn describe<'a>(alloc: Global, decls: &'a [Decl]) -> Result<Description<'a>,
     requires { All HasNumbersInRange decls.now }
     ensures made { IfOk result (λ d. described_in d ≡ described decls.now) }
     ensures sound { IfOk result (λ d. IsSound (described_in d)) }
-    ensures met { IfOk result (λ _. description_lack decls.now ≡ None) }
-    ensures refused { IfErr result (λ fault. IsRefusedAt fault (description_lack decls.now)) }
+    ensures met { IfOk result (λ _. IsDescriptionLack decls.now None) }
+    ensures refused { IfErr result (IsRefusedBy (IsDescriptionLack decls.now)) }
 {
     let mut description = Description::new(alloc);
+    let mut types = TypeTable::new(alloc);
     let mut number = 1;
     for decl in decls {
-        if let Some(lack) = declare(alloc, &mut description, decl)? {
+        if let Some(lack) = declare(alloc, &mut description, &mut types, decl)? {
             return Err(ElabFault::Lacks { number, lack });
         }
         number = next_number(number, decl);
@@ -42,8 +45,8 @@ pub fn describe<'a>(alloc: Global, decls: &'a [Decl]) -> Result<Description<'a>,
 pub fn elaborate(alloc: Global, decls: &[Decl]) -> Result<Spec, ElabFault>
     requires { All HasNumbersInRange decls.now }
     ensures made { IfOk result (λ spec. spec ≡ spec_of decls.now) }
-    ensures met { IfOk result (λ _. description_lack decls.now ≡ None) }
-    ensures refused { IfErr result (λ fault. IsRefusedAt fault (description_lack decls.now)) }
+    ensures met { IfOk result (λ _. IsDescriptionLack decls.now None) }
+    ensures refused { IfErr result (IsRefusedBy (IsDescriptionLack decls.now)) }
 {
     let Description { spec, .. } = describe(alloc, decls)?;
     Ok(spec)
@@ -52,7 +55,7 @@ pub fn elaborate(alloc: Global, decls: &[Decl]) -> Result<Spec, ElabFault>
 /// What the names of declarations stand for that lack nothing: `spec` is what `elaborate` answers on them.
 pub fn scope_of<'a>(alloc: Global, decls: &'a [Decl], spec: &Spec) -> Result<Scope<'a>, NoMemory>
     requires numbers { All HasNumbersInRange decls.now }
-    requires met { description_lack decls.now ≡ None }
+    requires met { IsDescriptionLack decls.now None }
     requires same { spec.now ≡ spec_of decls.now }
     ensures made { IfOk result (λ scope. declared_in scope ≡ (described decls.now).declared) }
     ensures sound { IfOk result (λ scope. IsSound (record { spec = spec.now; declared = declared_in scope })) }
@@ -78,14 +81,17 @@ fn next_number(number: u64, decl: &Decl) -> u64
 fn declare<'a>(
     alloc: Global,
     description: &mut Description<'a>,
+    types: &mut TypeTable,
     decl: &'a Decl,
 ) -> Result<Option<Lack>, NoMemory>
     requires sound { IsSound (described_in description.old) }
-    requires untyped { (described_in description.old).spec.type_names ≡ [] }
+    requires plain { HasPlainNames (described_in description.old).declared }
+    requires types { IsTableOf description.old.spec types.old }
     requires numbers { HasNumbersInRange decl.now }
-    ensures lack { IfOk result (λ lack. lack ≡ decl_lack (described_in description.old) decl.now) }
+    ensures lack { IfOk result (IsLackOf (described_in description.old) decl.now) }
     ensures made { IfOk result (λ lack. lack ≡ None → described_in description.new ≡ after (described_in description.old) decl.now) }
     ensures sound { IfOk result (λ lack. lack ≡ None → IsSound (described_in description.new)) }
+    ensures types { IfOk result (λ lack. lack ≡ None → IsTableOf description.new.spec types.new) }
 {
     match decl {
         Decl::Heading(_) => Ok(None),
@@ -114,8 +120,18 @@ fn declare<'a>(
                 equations,
                 body,
             };
-            let lack = constructor_lack(alloc, description, &tree)?;
-            Ok(Some(lack))
+            let unmet = declare_constructor(alloc, description, types, &tree)?;
+            Ok(lack_of(unmet))
         }
+    }
+}
+
+// What is lacking where a condition is unmet.
+fn lack_of(unmet: Option<u8>) -> Option<Lack>
+    ensures { result ≡ option_map Lack.Condition unmet }
+{
+    match unmet {
+        Some(condition) => Some(Lack::Condition(condition)),
+        None => None,
     }
 }

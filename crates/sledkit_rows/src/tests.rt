@@ -255,7 +255,7 @@ fn conditions_of_declarations(rt: HostRuntime) -> Result<(), Fail> {
 #[test]
 fn conditions_of_constructors(rt: HostRuntime) -> Result<(), Fail> {
     // What stands behind the classes and the group; the condition.
-    let rows: [(&str, u64); 35] = [
+    let rows: [(&str, u64); 46] = [
         ("c(x, x) is x", 1),
         ("c(t) is t: x", 1),
         ("c() is L: x = 1 & (L: y = 2)", 1),
@@ -298,6 +298,23 @@ fn conditions_of_constructors(rt: HostRuntime) -> Result<(), Fail> {
              o5 + o6 + o7 + o8 = x, o9 + o10 + o11 + o12 + o13 + o14 + o15 + o16 + o17 = x } is x",
             11,
         ),
+        ("c(t) { t = x + y } is x & y", 12),
+        ("c(t) { t = x + x! } is x", 12),
+        ("c(t) { t = x, x = y } is x & y", 13),
+        ("c(t) { 2 * t = x } is x", 13),
+        ("c(t) { t@[0:7] = x } is x", 13),
+        ("c(v) { v@[0:3] = x!, v@[4:31] = 0 } is x", 13),
+        ("c(a, b) { a + b = x } is x", 13),
+        ("c(t) { t = 4 * L } is L: w = 1", 13),
+        ("c() is epsilon", 14),
+        (
+            "c() is h; h; h; h; h; h; h; h; h; h; h; h; h; h; h; h; h",
+            14,
+        ),
+        (
+            "c() is x != 0; x != 0; x != 0; x != 0; x != 0; x != 0 | x = 0; x = 0; x = 0; x = 0; x = 0; x = 0",
+            15,
+        ),
     ];
     for (constructor, condition) in rows {
         let spec = format!(in rt.alloc(); "{CLASSES_AND_GROUP} constructors {constructor}")?;
@@ -317,29 +334,70 @@ fn conditions_of_constructors(rt: HostRuntime) -> Result<(), Fail> {
 }
 
 #[test]
-fn constructors_that_are_not_built(rt: HostRuntime) -> Result<(), Fail> {
-    let told = "s: error 90: declaration 4 is not built yet\n";
-    for constructor in [
-        "c(x, y!) : t is x & y",
-        "c() : t is t: x = 1",
-        "c(t) : t { t = x } is x",
-        "g(y) is g & y",
-        "c(n) { 65536 * x - 3 = n } is x",
-        "c(v) { v@[0:3] = x, v@[4:7] = y! } is x & y",
-        "c(n) { n = L + 4 * x } is y = 1 ; L: x",
-        "c(n) { n = 1 + 2 + 3 + 4 + 5 + 6 + 7 + 8 + 9 + 10 + 11 + 12 + 13 + 14 + x } is x",
-        "c(o1, o2, o3, o4, o5, o6, o7, o8, o9, o10, o11, o12, o13, o14, o15, o16) { o1 + o2 + o3 + o4 +
-         o5 + o6 + o7 + o8 = x, o9 + o10 + o11 + o12 + o13 + o14 + o15 + o16 = x } is x",
-    ] {
-        let spec = format!(in rt.alloc(); "{CLASSES_AND_GROUP} constructors {constructor}")?;
+fn conditions_of_types(rt: HostRuntime) -> Result<(), Fail> {
+    // What stands behind the classes and the group; the number of the declaration and the condition.
+    let rows: [(&str, u64, u64); 11] = [
+        ("c(x) : t is x c(y) : t is y", 5, 1),
+        ("c(x) : t is x d(t, t) is t", 5, 1),
+        ("c(x) : t is x d(t) : t is t", 5, 1),
+        ("c(x) : t is x d(t) is t e(y) : t is y", 6, 1),
+        ("c(x) : t is x d(a : t) is t", 5, 2),
+        ("c(x) : t is x d(t!) is t", 5, 2),
+        ("c() : t is x = 1 d() : t is w = 1 e(t, y) is t & y", 6, 6),
+        ("c() : t is x = 1 ... d(t) is t", 4, 7),
+        ("c(x) : t is x d(t) is t | t", 5, 8),
+        ("c(x) : t is x d(t) is y = 1", 5, 10),
+        ("c() : t is epsilon d(t) is t", 5, 14),
+    ];
+    for (constructors, number, condition) in rows {
+        let spec = format!(in rt.alloc(); "{CLASSES_AND_GROUP} constructors {constructors}")?;
+        let told = format!(in rt.alloc();
+            "s: error 8: declaration {number} does not meet condition {condition}\n"
+        )?;
         let (found, out, notes) = answer(
             rt.alloc(),
             &["dis", "s", "m", "0"],
             &sound(spec.as_str(), "match", b"\0"),
         )?;
-        assert_eq!(rt; found, Status::Refused(90));
+        assert_eq!(rt; found, Status::Refused(8));
         assert!(rt; out.bytes().is_empty());
         assert_eq!(rt; notes.bytes(), told.as_bytes());
+    }
+    Ok(())
+}
+
+#[test]
+fn accepted_constructors(rt: HostRuntime) -> Result<(), Fail> {
+    for constructor in [
+        "c(x, y!) : t is x & y",
+        "c() : t is t: x = 1",
+        "c() : t is epsilon",
+        "c(t) : t { t = x } is x",
+        "g(y) is g & y",
+        "c(t) { t = 2 * x } is x",
+        "c(n) { 65536 * x - 3 = n } is x",
+        "c(v) { v@[0:3] = x, v@[4:7] = y, v@[8:31] = 0 } is x & y",
+        "c(n) { n = L + 4 * x } is y = 1 ; L: x",
+        "c(n) { n = x! } is x",
+        "c(n, m) { n = x + y, m = x } is x & y",
+        "c(n) { n = 1 + 2 + 3 + 4 + 5 + 6 + 7 + 8 + 9 + 10 + 11 + 12 + 13 + 14 + x } is x",
+        "c(o1, o2, o3, o4, o5, o6, o7, o8, o9, o10, o11, o12, o13, o14, o15, o16) { o1 = x, o2 = x, o3 = x, o4 = x,
+         o5 = x, o6 = x, o7 = x, o8 = x, o9 = x, o10 = x, o11 = x, o12 = x, o13 = x, o14 = x, o15 = x, o16 = x } is x",
+        "c() is h; h; h; h; h; h; h; h; h; h; h; h; h; h; h; h",
+        "c() is x != 0; x != 0; x != 0; x != 0; x != 0; x != 0",
+        "c(x) : t is x d(y) : t is y e(t, a : t) is t ; a",
+        "c() : t is epsilon d(x) : t is x e(t, y) is t ... & y",
+        "c(x) : t is x d(t) : u is t ; w = 1 e(u) is u",
+    ] {
+        let spec = format!(in rt.alloc(); "{CLASSES_AND_GROUP} constructors {constructor}")?;
+        let (found, out, notes) = answer(
+            rt.alloc(),
+            &["dis", "s", "m", "0"],
+            &sound(spec.as_str(), "match case x = 2 => \"two\"", b"\x02"),
+        )?;
+        assert_eq!(rt; found, Status::Done);
+        assert_eq!(rt; out.bytes(), b"00000000: 02  two\n");
+        assert!(rt; notes.bytes().is_empty());
     }
     Ok(())
 }
@@ -382,12 +440,7 @@ fn conditions_of_arms(rt: HostRuntime) -> Result<(), Fail> {
 #[test]
 fn accepted_descriptions(rt: HostRuntime) -> Result<(), Fail> {
     let little = "fields of w (32 little)";
-    let (sparc, mips, i486) = (
-        without_constructors(SPARC),
-        without_constructors(MIPS),
-        without_constructors(I486),
-    );
-    for spec in [GROUP, little, BYTE_AND_HALF, sparc, mips, i486] {
+    for spec in [GROUP, little, BYTE_AND_HALF, SPARC, MIPS, I486] {
         let (found, out, notes) = answer(
             rt.alloc(),
             &["dis", "s", "m", "0"],
@@ -400,19 +453,11 @@ fn accepted_descriptions(rt: HostRuntime) -> Result<(), Fail> {
     Ok(())
 }
 
-// What stands before the word that heads the constructors.
-fn without_constructors(text: &str) -> &str {
-    match text.split_once("constructors") {
-        Some((before, _)) => before,
-        None => text,
-    }
-}
-
 #[test]
 fn refused_texts(rt: HostRuntime) -> Result<(), Fail> {
     let deep = "match case (((((((((((((((((((((((((((((((((((((((((((((((((((((((((((((((((";
     // SPEC, MATCH; the number and the notes.
-    let rows: [(&str, &str, u8, &str); 17] = [
+    let rows: [(&str, &str, u8, &str); 14] = [
         (
             "fields of w (32) x 0:7 $",
             "",
@@ -482,28 +527,10 @@ fn refused_texts(rt: HostRuntime) -> Result<(), Fail> {
             "m: error 90: arm 1 is not built yet\n",
         ),
         (
-            "constructors c() is epsilon",
+            "constructors c() is y = 1",
             "",
-            90,
-            "s: error 90: declaration 1 is not built yet\n",
-        ),
-        (
-            SPARC,
-            "",
-            90,
-            "s: error 90: declaration 9 is not built yet\n",
-        ),
-        (
-            MIPS,
-            "",
-            90,
-            "s: error 90: declaration 16 is not built yet\n",
-        ),
-        (
-            I486,
-            "",
-            90,
-            "s: error 90: declaration 16 is not built yet\n",
+            8,
+            "s: error 8: declaration 1 does not meet condition 2\n",
         ),
     ];
     for (spec, matching, number, told) in rows {

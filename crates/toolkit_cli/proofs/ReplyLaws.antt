@@ -7,6 +7,7 @@ use Rattle.sled_lexer.specs.declared.LexFault.{LexFault}
 use Rattle.sled_lexer.specs.declared.LexFault.TheVariants as lex
 use Rattle.sled_lexer.specs.Lexemes.{IsLexFault}
 use Rattle.sled_lexer.proofs.Exact.{one_list, one_fault, list_or_fault}
+use Rattle.sled_parser.specs.declared.tree.MatchTree.{MatchTree}
 use Rattle.sled_parser.specs.Pieces.{Input, pieces}
 use Rattle.sled_parser.specs.Nesting.{nest_fault}
 use Rattle.sled_parser.specs.Declarations.{IsDescription}
@@ -16,16 +17,18 @@ use Rattle.sled_parser.proofs.Only.{one_statement}
 use Rattle.sled_model.specs.declared.spec.Spec.{Spec}
 use Rattle.sled_model.specs.declared.statement.Statement.{Statement}
 use Rattle.sled_elab.specs.declared.lack.Lack.{Lack}
-use Rattle.sled_elab.specs.Conditions.{description_lack}
+use Rattle.sled_elab.specs.declared.lack.Lack.TheVariants as lack
+use Rattle.sled_elab.specs.Conditions.{IsDescriptionLack}
 use Rattle.sled_elab.specs.Declarations.{Described}
 use Rattle.sled_elab.specs.Elaboration.{described}
 use Rattle.sled_elab.specs.Statements.{statement_of}
+use Rattle.sled_elab.proofs.LackLaws.{description_lack_one}
 use Rattle.toolkit_cli.specs.declared.messages.Unit.{Unit as Part}
 use Rattle.toolkit_cli.specs.declared.messages.Unit.TheVariants as part
 use Rattle.toolkit_cli.specs.declared.messages.Problem.{Problem}
 use Rattle.toolkit_cli.specs.declared.messages.Problem.TheVariants as problem
 use Rattle.toolkit_cli.specs.Words.{Words}
-use Rattle.toolkit_cli.specs.Texts.{IsLexed, IsParsed, IsNoSentence, NestsDeep, IsRefused, IsDescribed, RefusesDescription, lack_over, IsStated, RefusesStatement, lack_problem}
+use Rattle.toolkit_cli.specs.Texts.{IsLexed, IsParsed, IsNoSentence, NestsDeep, IsRefused, IsDescribed, RefusesDescription, IsLackOver, IsStated, RefusesStatement, lack_problem}
 use Rattle.std.specs.Option.{ForSome}
 use Rattle.toolkit_cli.specs.Reply.{Settled, Shelved, no_form, refused_text, accepted, SettlesDis, Settles, TellsTexts, Reply, reply}
 use Rattle.toolkit_cli.specs.Stands.{Answered}
@@ -37,14 +40,15 @@ data Stage (T : Type 0) : Type 0 where
   fault : LexFault → Stage T
   deep : ℕ → Stage T
   no_sentence : Stage T
-  read : T → Stage T
+  -- the tree, and the first of its parts that lacks something
+  read : T → Option (ℕ × Lack) → Stage T
 
-abbrev EndsAt : {T : Type 0} → (Input → T → Type 0) → List ℕ → Stage T → Type 0
-EndsAt IsTree text too_long = MAX_TEXT < length text
-EndsAt IsTree text (fault f) = (length text ≤ MAX_TEXT) × IsLexFault text f
-EndsAt IsTree text (deep place) = NestsDeep text place
-EndsAt IsTree text no_sentence = IsNoSentence IsTree text
-EndsAt IsTree text (read tree) = IsParsed IsTree text tree
+abbrev EndsAt : {T : Type 0} → (Input → T → Type 0) → (T → Option (ℕ × Lack) → Type 0) → List ℕ → Stage T → Type 0
+EndsAt IsTree Lacks text too_long = MAX_TEXT < length text
+EndsAt IsTree Lacks text (fault f) = (length text ≤ MAX_TEXT) × IsLexFault text f
+EndsAt IsTree Lacks text (deep place) = NestsDeep text place
+EndsAt IsTree Lacks text no_sentence = IsNoSentence IsTree text
+EndsAt IsTree Lacks text (read tree first) = IsParsed IsTree text tree × Lacks tree first
 
 abbrev lex_problem : LexFault → Option Problem
 lex_problem (lex.BadByte place) = Some (problem.BadByte place)
@@ -57,12 +61,12 @@ found_problem unit None = None
 found_problem unit (Some (number, what)) = Some (lack_problem unit number what)
 
 -- what a text is refused for that ends there
-abbrev stage_problem : {T : Type 0} → (T → Option (ℕ × Lack)) → Part → Stage T → Option Problem
-stage_problem lacks unit too_long = Some problem.TooLong
-stage_problem lacks unit (fault f) = lex_problem f
-stage_problem lacks unit (deep place) = Some (problem.Nesting place)
-stage_problem lacks unit no_sentence = Some problem.Syntax
-stage_problem lacks unit (read tree) = found_problem unit (lacks tree)
+abbrev stage_problem : {T : Type 0} → Part → Stage T → Option Problem
+stage_problem unit too_long = Some problem.TooLong
+stage_problem unit (fault f) = lex_problem f
+stage_problem unit (deep place) = Some (problem.Nesting place)
+stage_problem unit no_sentence = Some problem.Syntax
+stage_problem unit (read tree first) = found_problem unit first
 
 -- ---- there is one such end
 
@@ -96,78 +100,85 @@ one_tree : {T : Type 0} (IsTree : Input → T → Type 0) → ((i : Input) (s t 
 one_tree IsTree only text s t a b =
     only (pieces text b.lexemes) s t (subst (λ (ls : List Lexeme). IsTree (pieces text ls) s) (one_lexed text a.lexemes b.lexemes a.lexed b.lexed) a.reads) b.reads
 
-one_stage : {T : Type 0} (IsTree : Input → T → Type 0) → ((i : Input) (s t : T) → IsTree i s → IsTree i t → s ≡ t) → (text : List ℕ) (a b : Stage T) → EndsAt IsTree text a → EndsAt IsTree text b → a ≡ b
-one_stage IsTree only text too_long too_long x y = refl
-one_stage IsTree only text too_long (fault g) x y = long_and_short text x y.0
-one_stage IsTree only text too_long (deep q) x y = long_and_short text x y.lexed.short
-one_stage IsTree only text too_long no_sentence x y = long_and_short text x y.lexed.short
-one_stage IsTree only text too_long (read t) x y = long_and_short text x y.lexed.short
-one_stage IsTree only text (fault f) too_long x y = long_and_short text y x.0
-one_stage IsTree only text (fault f) (fault g) x y = ap fault (one_fault text f g x.1 y.1)
-one_stage IsTree only text (fault f) (deep q) x y = fault_and_lexed text f y.lexemes x.1 y.lexed
-one_stage IsTree only text (fault f) no_sentence x y = fault_and_lexed text f y.lexemes x.1 y.lexed
-one_stage IsTree only text (fault f) (read t) x y = fault_and_lexed text f y.lexemes x.1 y.lexed
-one_stage IsTree only text (deep p) too_long x y = long_and_short text y x.lexed.short
-one_stage IsTree only text (deep p) (fault g) x y = fault_and_lexed text g x.lexemes y.1 x.lexed
-one_stage IsTree only text (deep p) (deep q) x y = ap deep (one_place text p q x y)
-one_stage IsTree only text (deep p) no_sentence x y = deep_and_shallow text p y.lexemes x y.lexed y.shallow
-one_stage IsTree only text (deep p) (read t) x y = deep_and_shallow text p y.lexemes x y.lexed y.shallow
-one_stage IsTree only text no_sentence too_long x y = long_and_short text y x.lexed.short
-one_stage IsTree only text no_sentence (fault g) x y = fault_and_lexed text g x.lexemes y.1 x.lexed
-one_stage IsTree only text no_sentence (deep q) x y = deep_and_shallow text q x.lexemes y x.lexed x.shallow
-one_stage IsTree only text no_sentence no_sentence x y = refl
-one_stage IsTree only text no_sentence (read t) x y = none_and_tree IsTree text t x y
-one_stage IsTree only text (read s) too_long x y = long_and_short text y x.lexed.short
-one_stage IsTree only text (read s) (fault g) x y = fault_and_lexed text g x.lexemes y.1 x.lexed
-one_stage IsTree only text (read s) (deep q) x y = deep_and_shallow text q x.lexemes y x.lexed x.shallow
-one_stage IsTree only text (read s) no_sentence x y = none_and_tree IsTree text s y x
-one_stage IsTree only text (read s) (read t) x y = ap read (one_tree IsTree only text s t x y)
+-- the trees are one, and so is the first that lacks something
+one_read : {T : Type 0} (Lacks : T → Option (ℕ × Lack) → Type 0) → ((t : T) (p q : Option (ℕ × Lack)) → Lacks t p → Lacks t q → p ≡ q) → (s t : T) (p q : Option (ℕ × Lack)) → s ≡ t → Lacks s p → Lacks t q
+    → read s p ≡ read t q
+one_read Lacks one s t p q same x y =
+    let there : Lacks t p = subst (λ z. Lacks z p) same x in
+    ap (λ z. read z p) same ∙ ap (read t) (one t p q there y)
+
+one_stage : {T : Type 0} (IsTree : Input → T → Type 0) → ((i : Input) (s t : T) → IsTree i s → IsTree i t → s ≡ t) → (Lacks : T → Option (ℕ × Lack) → Type 0)
+    → ((t : T) (p q : Option (ℕ × Lack)) → Lacks t p → Lacks t q → p ≡ q) → (text : List ℕ) (a b : Stage T) → EndsAt IsTree Lacks text a → EndsAt IsTree Lacks text b → a ≡ b
+one_stage IsTree only Lacks one text too_long too_long x y = refl
+one_stage IsTree only Lacks one text too_long (fault g) x y = long_and_short text x y.0
+one_stage IsTree only Lacks one text too_long (deep q) x y = long_and_short text x y.lexed.short
+one_stage IsTree only Lacks one text too_long no_sentence x y = long_and_short text x y.lexed.short
+one_stage IsTree only Lacks one text too_long (read t r) x y = long_and_short text x y.0.lexed.short
+one_stage IsTree only Lacks one text (fault f) too_long x y = long_and_short text y x.0
+one_stage IsTree only Lacks one text (fault f) (fault g) x y = ap fault (one_fault text f g x.1 y.1)
+one_stage IsTree only Lacks one text (fault f) (deep q) x y = fault_and_lexed text f y.lexemes x.1 y.lexed
+one_stage IsTree only Lacks one text (fault f) no_sentence x y = fault_and_lexed text f y.lexemes x.1 y.lexed
+one_stage IsTree only Lacks one text (fault f) (read t r) x y = fault_and_lexed text f y.0.lexemes x.1 y.0.lexed
+one_stage IsTree only Lacks one text (deep p) too_long x y = long_and_short text y x.lexed.short
+one_stage IsTree only Lacks one text (deep p) (fault g) x y = fault_and_lexed text g x.lexemes y.1 x.lexed
+one_stage IsTree only Lacks one text (deep p) (deep q) x y = ap deep (one_place text p q x y)
+one_stage IsTree only Lacks one text (deep p) no_sentence x y = deep_and_shallow text p y.lexemes x y.lexed y.shallow
+one_stage IsTree only Lacks one text (deep p) (read t r) x y = deep_and_shallow text p y.0.lexemes x y.0.lexed y.0.shallow
+one_stage IsTree only Lacks one text no_sentence too_long x y = long_and_short text y x.lexed.short
+one_stage IsTree only Lacks one text no_sentence (fault g) x y = fault_and_lexed text g x.lexemes y.1 x.lexed
+one_stage IsTree only Lacks one text no_sentence (deep q) x y = deep_and_shallow text q x.lexemes y x.lexed x.shallow
+one_stage IsTree only Lacks one text no_sentence no_sentence x y = refl
+one_stage IsTree only Lacks one text no_sentence (read t r) x y = none_and_tree IsTree text t x y.0
+one_stage IsTree only Lacks one text (read s r) too_long x y = long_and_short text y x.0.lexed.short
+one_stage IsTree only Lacks one text (read s r) (fault g) x y = fault_and_lexed text g x.0.lexemes y.1 x.0.lexed
+one_stage IsTree only Lacks one text (read s r) (deep q) x y = deep_and_shallow text q x.0.lexemes y x.0.lexed x.0.shallow
+one_stage IsTree only Lacks one text (read s r) no_sentence x y = none_and_tree IsTree text s y x.0
+one_stage IsTree only Lacks one text (read s p) (read t q) x y = one_read Lacks one s t p q (one_tree IsTree only text s t x.0 y.0) x.1 y.1
 
 -- ---- a refusal tells where the reading ends
 
-record IsEnd {T : Type 0} (IsTree : Input → T → Type 0) (lacks : T → Option (ℕ × Lack)) (unit : Part) (text : List ℕ) (found : Option Problem) : Type 0 where
+record IsEnd {T : Type 0} (IsTree : Input → T → Type 0) (Lacks : T → Option (ℕ × Lack) → Type 0) (unit : Part) (text : List ℕ) (found : Option Problem) : Type 0 where
   pub stage : Stage T
-  pub ends : EndsAt IsTree text stage
-  pub is : stage_problem lacks unit stage ≡ found
+  pub ends : EndsAt IsTree Lacks text stage
+  pub is : stage_problem unit stage ≡ found
 
-refused_end : {T : Type 0} (IsTree : Input → T → Type 0) (lacks : T → Option (ℕ × Lack)) (unit : Part) (text : List ℕ) (p : Problem) → IsRefused IsTree lacks unit text p → IsEnd IsTree lacks unit text (Some p)
-refused_end IsTree lacks unit text problem.Unread h = absurd h
-refused_end IsTree lacks unit text problem.TooLong h = record { stage = too_long; ends = h; is = refl }
-refused_end IsTree lacks unit text (problem.BadByte place) h = record { stage = fault (lex.BadByte place); ends = h; is = refl }
-refused_end IsTree lacks unit text (problem.OpenText place) h = record { stage = fault (lex.OpenText place); ends = h; is = refl }
-refused_end IsTree lacks unit text (problem.NumberTooBig place) h = record { stage = fault (lex.NumberTooBig place); ends = h; is = refl }
-refused_end IsTree lacks unit text problem.Syntax h = record { stage = no_sentence; ends = h; is = refl }
-refused_end IsTree lacks unit text (problem.Nesting place) h = record { stage = deep place; ends = h; is = refl }
-refused_end IsTree lacks unit text (problem.Unmet what number condition) h = record {
-  stage = read h.1.tree;
-  ends = h.1.parsed;
-  is = ap (found_problem unit) h.1.lack ∙ ap (λ (w : Part). Some (problem.Unmet w number condition)) (sym h.0);
-}
-refused_end IsTree lacks unit text (problem.NoMatch address) h = absurd h
-refused_end IsTree lacks unit text (problem.AddressEnd address) h = absurd h
-refused_end IsTree lacks unit text (problem.NotBuilt what number) h = record {
-  stage = read h.1.tree;
-  ends = h.1.parsed;
-  is = ap (found_problem unit) h.1.lack ∙ ap (λ (w : Part). Some (problem.NotBuilt w number)) (sym h.0);
-}
+module _ {T : Type 0} (IsTree : Input → T → Type 0) (Lacks : T → Option (ℕ × Lack) → Type 0) (unit : Part) (text : List ℕ) where
+  refused_end : (p : Problem) → IsRefused IsTree Lacks unit text p → IsEnd IsTree Lacks unit text (Some p)
+  refused_end problem.Unread h = absurd h
+  refused_end problem.TooLong h = record { stage = too_long; ends = h; is = refl }
+  refused_end (problem.BadByte place) h = record { stage = fault (lex.BadByte place); ends = h; is = refl }
+  refused_end (problem.OpenText place) h = record { stage = fault (lex.OpenText place); ends = h; is = refl }
+  refused_end (problem.NumberTooBig place) h = record { stage = fault (lex.NumberTooBig place); ends = h; is = refl }
+  refused_end problem.Syntax h = record { stage = no_sentence; ends = h; is = refl }
+  refused_end (problem.Nesting place) h = record { stage = deep place; ends = h; is = refl }
+  refused_end (problem.Unmet what number condition) h = record {
+    stage = read h.1.tree (Some (number, lack.Condition condition));
+    ends = (h.1.parsed, h.1.lack);
+    is = ap (λ (w : Part). Some (problem.Unmet w number condition)) (sym h.0);
+  }
+  refused_end (problem.NoMatch address) h = absurd h
+  refused_end (problem.AddressEnd address) h = absurd h
+  refused_end (problem.NotBuilt what number) h = record {
+    stage = read h.1.tree (Some (number, lack.NotBuilt));
+    ends = (h.1.parsed, h.1.lack);
+    is = ap (λ (w : Part). Some (problem.NotBuilt w number)) (sym h.0);
+  }
 
-one_found : {T : Type 0} (IsTree : Input → T → Type 0) → ((i : Input) (s t : T) → IsTree i s → IsTree i t → s ≡ t) → (lacks : T → Option (ℕ × Lack)) (unit : Part) (text : List ℕ) (x y : Option Problem)
-    → IsEnd IsTree lacks unit text x → IsEnd IsTree lacks unit text y → x ≡ y
-one_found IsTree only lacks unit text x y a b = sym a.is ∙ ap (stage_problem lacks unit) (one_stage IsTree only text a.stage b.stage a.ends b.ends) ∙ b.is
+  module _ (only : (i : Input) (s t : T) → IsTree i s → IsTree i t → s ≡ t) (one : (t : T) (p q : Option (ℕ × Lack)) → Lacks t p → Lacks t q → p ≡ q) where
+    one_found : (x y : Option Problem) → IsEnd IsTree Lacks unit text x → IsEnd IsTree Lacks unit text y → x ≡ y
+    one_found x y a b = sym a.is ∙ ap (stage_problem unit) (one_stage IsTree only Lacks one text a.stage b.stage a.ends b.ends) ∙ b.is
 
--- ---- a text has one refusal at most, and none where it lacks nothing
+    -- a text has one refusal at most
+    pub one_refusal : (p q : Problem) → IsRefused IsTree Lacks unit text p → IsRefused IsTree Lacks unit text q → p ≡ q
+    one_refusal p q a b =
+        let same : Some p ≡ Some q = one_found (Some p) (Some q) (refused_end p a) (refused_end q b) in
+        cc
 
-pub one_refusal : {T : Type 0} (IsTree : Input → T → Type 0) → ((i : Input) (s t : T) → IsTree i s → IsTree i t → s ≡ t) → (lacks : T → Option (ℕ × Lack)) (unit : Part) (text : List ℕ) (p q : Problem)
-    → IsRefused IsTree lacks unit text p → IsRefused IsTree lacks unit text q → p ≡ q
-one_refusal IsTree only lacks unit text p q a b =
-    let same : Some p ≡ Some q = one_found IsTree only lacks unit text (Some p) (Some q) (refused_end IsTree lacks unit text p a) (refused_end IsTree lacks unit text q b) in
-    cc
-
-pub whole_stands : {T : Type 0} (IsTree : Input → T → Type 0) → ((i : Input) (s t : T) → IsTree i s → IsTree i t → s ≡ t) → (lacks : T → Option (ℕ × Lack)) (unit : Part) (text : List ℕ) (tree : T) (p : Problem)
-    → IsParsed IsTree text tree → lacks tree ≡ None → ¬ IsRefused IsTree lacks unit text p
-whole_stands IsTree only lacks unit text tree p parsed met h =
-    let clash : None ≡ Some p = one_found IsTree only lacks unit text None (Some p) (record { stage = read tree; ends = parsed; is = ap (found_problem unit) met }) (refused_end IsTree lacks unit text p h) in
-    absurd cc
+    -- and none where it lacks nothing
+    pub whole_stands : (tree : T) (p : Problem) → IsParsed IsTree text tree → Lacks tree None → ¬ IsRefused IsTree Lacks unit text p
+    whole_stands tree p parsed met h =
+        let clash : None ≡ Some p = one_found None (Some p) (record { stage = read tree None; ends = (parsed, met); is = refl }) (refused_end p h) in
+        absurd cc
 
 -- ---- descriptions
 
@@ -175,21 +186,24 @@ pub one_described : (text : List ℕ) (a b : Described) → IsDescribed text a �
 one_described text a b x y = x.same ∙ ap described (one_tree IsDescription one_description text x.tree y.tree x.parsed y.parsed) ∙ sym y.same
 
 pub described_stands : (text : List ℕ) (a : Described) (p : Problem) → IsDescribed text a → ¬ RefusesDescription text p
-described_stands text a p x h = whole_stands IsDescription one_description description_lack part.Declaration text x.tree p x.parsed x.met h
+described_stands text a p x h = whole_stands IsDescription IsDescriptionLack part.Declaration text one_description description_lack_one x.tree p x.parsed x.met h
 
 pub one_refusal_of_spec : (text : List ℕ) (p q : Problem) → RefusesDescription text p → RefusesDescription text q → p ≡ q
-one_refusal_of_spec text p q x y = one_refusal IsDescription one_description description_lack part.Declaration text p q x y
+one_refusal_of_spec text p q x y = one_refusal IsDescription IsDescriptionLack part.Declaration text one_description description_lack_one p q x y
 
 -- ---- statements over a description
 
 pub one_stated : (d : Described) (text : List ℕ) (a b : Statement) → IsStated d text a → IsStated d text b → a ≡ b
 one_stated d text a b x y = x.same ∙ ap (statement_of d.declared) (one_tree IsStatement one_statement text x.tree y.tree x.parsed y.parsed) ∙ sym y.same
 
+lack_over_one : (d : Described) (tree : MatchTree) (p q : Option (ℕ × Lack)) → IsLackOver d tree p → IsLackOver d tree q → p ≡ q
+lack_over_one d tree p q x y = sym x ∙ y
+
 pub stated_stands : (d : Described) (text : List ℕ) (a : Statement) (p : Problem) → IsStated d text a → ¬ RefusesStatement d text p
-stated_stands d text a p x h = whole_stands IsStatement one_statement (lack_over d) part.Arm text x.tree p x.parsed x.met h
+stated_stands d text a p x h = whole_stands IsStatement (IsLackOver d) part.Arm text one_statement (lack_over_one d) x.tree p x.parsed x.met h
 
 pub one_refusal_of_match : (d : Described) (text : List ℕ) (p q : Problem) → RefusesStatement d text p → RefusesStatement d text q → p ≡ q
-one_refusal_of_match d text p q x y = one_refusal IsStatement one_statement (lack_over d) part.Arm text p q x y
+one_refusal_of_match d text p q x y = one_refusal IsStatement (IsLackOver d) part.Arm text one_statement (lack_over_one d) p q x y
 
 -- ---- what words and texts come to
 

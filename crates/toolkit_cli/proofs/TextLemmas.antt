@@ -16,19 +16,19 @@ use Rattle.toolkit_cli.specs.declared.messages.Unit.{Unit as Part}
 use Rattle.toolkit_cli.specs.Texts.{IsLexed, IsParsed, IsRefused, Stops, lex_stop, syntax_stop}
 use Rattle.toolkit_cli.specs.Reply.{Shelved, IsThere}
 
-pub not_lexed : {T : Type 0} (IsTree : Input → T → Type 0) (lacks : T → Option (ℕ × Lack)) (unit : Part) (text : List ℕ) (f : LexFault) → length text ≤ 1048576
-    → (f ≢ lex.NoMemory → IsLexFault text f) → Stops (IsRefused IsTree lacks unit) text (lex_stop f)
-not_lexed IsTree lacks unit text (lex.BadByte place) short h = (short, h (λ e. cc))
-not_lexed IsTree lacks unit text (lex.OpenText place) short h = (short, h (λ e. cc))
-not_lexed IsTree lacks unit text (lex.NumberTooBig place) short h = (short, h (λ e. cc))
-not_lexed IsTree lacks unit text lex.NoMemory short h = tt
+pub not_lexed : {T : Type 0} (IsTree : Input → T → Type 0) (Lacks : T → Option (ℕ × Lack) → Type 0) (unit : Part) (text : List ℕ) (f : LexFault) → length text ≤ 1048576
+    → (f ≢ lex.NoMemory → IsLexFault text f) → Stops (IsRefused IsTree Lacks unit) text (lex_stop f)
+not_lexed IsTree Lacks unit text (lex.BadByte place) short h = (short, h (λ e. cc))
+not_lexed IsTree Lacks unit text (lex.OpenText place) short h = (short, h (λ e. cc))
+not_lexed IsTree Lacks unit text (lex.NumberTooBig place) short h = (short, h (λ e. cc))
+not_lexed IsTree Lacks unit text lex.NoMemory short h = tt
 
-pub not_parsed : {T : Type 0} (IsTree : Input → T → Type 0) (lacks : T → Option (ℕ × Lack)) (unit : Part) (text : List ℕ) (lexemes : List Lexeme) (f : SyntaxFault) → IsLexed text lexemes
+pub not_parsed : {T : Type 0} (IsTree : Input → T → Type 0) (Lacks : T → Option (ℕ × Lack) → Type 0) (unit : Part) (text : List ℕ) (lexemes : List Lexeme) (f : SyntaxFault) → IsLexed text lexemes
     → ((p : ℕ) → f ≡ syntax.Nesting p → nest_fault text lexemes ≡ Some p) → (f ≡ syntax.Syntax → (nest_fault text lexemes ≡ None) × ((t : T) → ¬ IsTree (pieces text lexemes) t))
-    → Stops (IsRefused IsTree lacks unit) text (syntax_stop f)
-not_parsed IsTree lacks unit text lexemes (syntax.Nesting place) lexed deep none = record { lexemes = lexemes; lexed = lexed; deep = deep place refl }
-not_parsed IsTree lacks unit text lexemes syntax.Syntax lexed deep none = let h = none refl in record { lexemes = lexemes; lexed = lexed; shallow = h.0; none = h.1 }
-not_parsed IsTree lacks unit text lexemes syntax.NoMemory lexed deep none = tt
+    → Stops (IsRefused IsTree Lacks unit) text (syntax_stop f)
+not_parsed IsTree Lacks unit text lexemes (syntax.Nesting place) lexed deep none = record { lexemes = lexemes; lexed = lexed; deep = deep place refl }
+not_parsed IsTree Lacks unit text lexemes syntax.Syntax lexed deep none = let h = none refl in record { lexemes = lexemes; lexed = lexed; shallow = h.0; none = h.1 }
+not_parsed IsTree Lacks unit text lexemes syntax.NoMemory lexed deep none = tt
 
 -- what holds of each text that spells the declarations holds of the text of that name
 pub of_declarations : (shelf : Shelved) (name : List ℕ) (decls listed : List Decl) (P : List ℕ → Type 0) → listed ≡ decls → IsThere shelf name (λ t. IsParsed IsDescription t decls)

@@ -20,7 +20,7 @@ use Rattle.sled_elab.specs.declared.lack.Lack.{Lack}
 use Rattle.sled_elab.specs.declared.lack.Lack.TheVariants as lack
 use Rattle.sled_elab.specs.declared.lack.ElabFault.{ElabFault}
 use Rattle.sled_elab.specs.declared.lack.ElabFault.TheVariants as elab
-use Rattle.sled_elab.specs.Conditions.{description_lack, statement_lack}
+use Rattle.sled_elab.specs.Conditions.{IsDescriptionLack, statement_lack}
 use Rattle.sled_elab.specs.Declarations.{Described}
 use Rattle.sled_elab.specs.Elaboration.{described}
 use Rattle.sled_elab.specs.Statements.{statement_of}
@@ -58,22 +58,22 @@ pub record NestsDeep (text : List ℕ) (place : ℕ) : Type 0 where
   pub deep : nest_fault text lexemes ≡ Some place
 
 -- the text is a sentence, and this is the first of its parts that lacks something
-pub record LacksAt {T : Type 0} (IsTree : Input → T → Type 0) (lacks : T → Option (ℕ × Lack)) (text : List ℕ) (number : ℕ) (what : Lack) : Type 0 where
+pub record LacksAt {T : Type 0} (IsTree : Input → T → Type 0) (Lacks : T → Option (ℕ × Lack) → Type 0) (text : List ℕ) (number : ℕ) (what : Lack) : Type 0 where
   pub tree : T
   pub parsed : IsParsed IsTree text tree
-  pub lack : lacks tree ≡ Some (number, what)
+  pub lack : Lacks tree (Some (number, what))
 
--- the text is refused so
-abbrev pub IsRefused : {T : Type 0} → (Input → T → Type 0) → (T → Option (ℕ × Lack)) → Part → List ℕ → Problem → Type 0
-IsRefused IsTree lacks unit text problem.TooLong = MAX_TEXT < length text
-IsRefused IsTree lacks unit text (problem.BadByte place) = (length text ≤ MAX_TEXT) × IsLexFault text (lex.BadByte place)
-IsRefused IsTree lacks unit text (problem.OpenText place) = (length text ≤ MAX_TEXT) × IsLexFault text (lex.OpenText place)
-IsRefused IsTree lacks unit text (problem.NumberTooBig place) = (length text ≤ MAX_TEXT) × IsLexFault text (lex.NumberTooBig place)
-IsRefused IsTree lacks unit text (problem.Nesting place) = NestsDeep text place
-IsRefused IsTree lacks unit text problem.Syntax = IsNoSentence IsTree text
-IsRefused IsTree lacks unit text (problem.Unmet what number condition) = (what ≡ unit) × LacksAt IsTree lacks text number (lack.Condition condition)
-IsRefused IsTree lacks unit text (problem.NotBuilt what number) = (what ≡ unit) × LacksAt IsTree lacks text number lack.NotBuilt
-IsRefused IsTree lacks unit text _ = ⊥
+-- the text is refused so: `Lacks` says what the first part that lacks something lacks
+abbrev pub IsRefused : {T : Type 0} → (Input → T → Type 0) → (T → Option (ℕ × Lack) → Type 0) → Part → List ℕ → Problem → Type 0
+IsRefused IsTree Lacks unit text problem.TooLong = MAX_TEXT < length text
+IsRefused IsTree Lacks unit text (problem.BadByte place) = (length text ≤ MAX_TEXT) × IsLexFault text (lex.BadByte place)
+IsRefused IsTree Lacks unit text (problem.OpenText place) = (length text ≤ MAX_TEXT) × IsLexFault text (lex.OpenText place)
+IsRefused IsTree Lacks unit text (problem.NumberTooBig place) = (length text ≤ MAX_TEXT) × IsLexFault text (lex.NumberTooBig place)
+IsRefused IsTree Lacks unit text (problem.Nesting place) = NestsDeep text place
+IsRefused IsTree Lacks unit text problem.Syntax = IsNoSentence IsTree text
+IsRefused IsTree Lacks unit text (problem.Unmet what number condition) = (what ≡ unit) × LacksAt IsTree Lacks text number (lack.Condition condition)
+IsRefused IsTree Lacks unit text (problem.NotBuilt what number) = (what ≡ unit) × LacksAt IsTree Lacks text number lack.NotBuilt
+IsRefused IsTree Lacks unit text _ = ⊥
 
 -- ---- descriptions
 
@@ -81,27 +81,27 @@ IsRefused IsTree lacks unit text _ = ⊥
 pub record IsDescribed (text : List ℕ) (d : Described) : Type 0 where
   pub tree : List Decl
   pub parsed : IsParsed IsDescription text tree
-  pub met : description_lack tree ≡ None
+  pub met : IsDescriptionLack tree None
   pub same : d ≡ described tree
 
 abbrev pub RefusesDescription : List ℕ → Problem → Type 0
-RefusesDescription text p = IsRefused IsDescription description_lack part.Declaration text p
+RefusesDescription text p = IsRefused IsDescription IsDescriptionLack part.Declaration text p
 
 -- ---- statements over a description
 
 -- the first arm that lacks something over the description, and what it lacks
-abbrev pub lack_over : Described → MatchTree → Option (ℕ × Lack)
-lack_over d tree = statement_lack d.spec d.declared tree
+abbrev pub IsLackOver : Described → MatchTree → Option (ℕ × Lack) → Type 0
+IsLackOver d tree first = statement_lack d.spec d.declared tree ≡ first
 
 -- the text is a statement that lacks nothing, and this is what it makes
 pub record IsStated (d : Described) (text : List ℕ) (statement : Statement) : Type 0 where
   pub tree : MatchTree
   pub parsed : IsParsed IsStatement text tree
-  pub met : lack_over d tree ≡ None
+  pub met : IsLackOver d tree None
   pub same : statement ≡ statement_of d.declared tree
 
 abbrev pub RefusesStatement : Described → List ℕ → Problem → Type 0
-RefusesStatement d text p = IsRefused IsStatement (lack_over d) part.Arm text p
+RefusesStatement d text p = IsRefused IsStatement (IsLackOver d) part.Arm text p
 
 -- ---- what stops a text
 

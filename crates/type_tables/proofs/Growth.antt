@@ -101,7 +101,7 @@ module _ (t u : Tokens) (n : ℕ) (grows : Grows t u n n) where
 -- the description with other tokens, of which its own are the first
 module _ (spec : Spec) (sound : IsSpec spec) (tokens : Tokens) (class_names field_names : List (List ℕ))
     (grows : Grows spec.tokens tokens (length spec.type_names) (length spec.type_names)) where
-  abbrev more_tokens : Spec
+  abbrev pub more_tokens : Spec
   more_tokens = record spec { tokens = tokens; class_names = class_names; field_names = field_names }
 
   weights_kept : each_from (weighed tokens) [] spec.constructors ≡ each_from (weighed spec.tokens) [] spec.constructors
@@ -121,7 +121,7 @@ module _ (spec : Spec) (sound : IsSpec spec) (tokens : Tokens) (class_names fiel
     used = h.used;
   }
 
-  tokens_added : (table : TypeTable) → IsTableOf spec table → IsTableOf more_tokens table
+  pub tokens_added : (table : TypeTable) → IsTableOf spec table → IsTableOf more_tokens table
   tokens_added table h = record { count = h.count; entries = λ t entry is. entry_kept t entry (h.entries t entry is) }
 
 module _ (spec : Spec) (sound : IsSpec spec) (name : List ℕ) (table : TypeTable) where

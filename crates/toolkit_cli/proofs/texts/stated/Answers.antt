@@ -3,7 +3,7 @@ use Rattle.sled_lexer.specs.Lexemes.{Lexemes, InRange}
 use Rattle.sled_parser.specs.Statements.{IsStatement}
 use Rattle.sled_elab.specs.Descriptions.{described_in}
 use Rattle.toolkit_cli.specs.declared.messages.Unit.TheVariants as part
-use Rattle.toolkit_cli.specs.Texts.{Stops, RefusesStatement, lack_over}
+use Rattle.toolkit_cli.specs.Texts.{Stops, RefusesStatement, IsLackOver}
 use Rattle.toolkit_cli.proofs.RangeLemmas.{statement_in_range}
 use Rattle.toolkit_cli.proofs.TextLemmas.{not_lexed, not_parsed}
 use Rattle.toolkit_cli.proofs.texts.stated.Goals as goal
@@ -12,14 +12,14 @@ pub returns-in-Err-clause-refused : goal.returns-in-Err-clause-refused
 returns-in-Err-clause-refused c =
     let d = described_in c.args.description.now in
     subst (Stops (RefusesStatement d) c.args.text.now) (sym c.not_lexed.ensures)
-    (not_lexed IsStatement (lack_over d) part.Arm c.args.text.now c.in-Err.fault c.requires.short c.in-Err.ensures.fault)
+    (not_lexed IsStatement (IsLackOver d) part.Arm c.args.text.now c.in-Err.fault c.requires.short c.in-Err.ensures.fault)
 
 pub returns-in-Err-parse_match-clause-refused : goal.returns-in-Err-parse_match-clause-refused
 returns-in-Err-parse_match-clause-refused c =
     let text = c.args.text.now in
     let d = described_in c.args.description.now in
     subst (Stops (RefusesStatement d) text) (sym c.not_parsed.ensures)
-    (not_parsed IsStatement (lack_over d) part.Arm text c.as_slice.result.now c.in-Err-parse_match.fault
+    (not_parsed IsStatement (IsLackOver d) part.Arm text c.as_slice.result.now c.in-Err-parse_match.fault
     (record { short = c.requires.short; listed = subst (Lexemes text) (sym c.as_slice.ensures.value) c.in-Ok.ensures.ok; range = subst (InRange text) (sym c.as_slice.ensures.value) c.in-Ok.ensures.range })
     (λ p e. (c.in-Err-parse_match.ensures.nesting p).0 (ap Err e)) (λ e. c.in-Err-parse_match.ensures.syntax (ap Err e)))
 
