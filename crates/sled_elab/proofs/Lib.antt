@@ -12,3 +12,4 @@ pub mod PlainNames
 pub mod TableLemmas
 pub mod LackLaws
 pub mod MadeConstructors
+pub mod ConstructorLemmas

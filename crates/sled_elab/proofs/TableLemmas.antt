@@ -1,6 +1,6 @@
 -- The table of types stays that of the description where a declaration that makes no constructor is added.
 use Rattle.std.proofs.Common.{◌≡◌, ℕ, List, [], ◌∷◌, ◌++◌, length, map, refl, sym, subst, ◌∙◌, append-nil, append_assoc, arith}
-use Rattle.std.specs.Prelude.{Bool, fold}
+use Rattle.std.specs.Prelude.{Bool, fold, Result, Ok, Err, IfOk}
 use Rattle.std.proofs.lemmas.List.{length-append}
 use Rattle.sled_parser.specs.declared.tree.FieldTree.{FieldTree}
 use Rattle.token_bits.specs.declared.tokens.Field.{Field}
@@ -50,3 +50,7 @@ module _ (d : Described) (sound : IsSpec d.spec) (name width : List ℕ) (little
 -- the same description has the same table
 pub same_table : (spec other : Spec) (table : TypeTable) → other ≡ spec → IsTableOf spec table → IsTableOf other table
 same_table spec other table same h = subst (λ s. IsTableOf s table) (sym same) h
+
+pub if_ok_weaker : {A E : Type 0} (r : Result A E) (P Q : A → Type 0) → ((a : A) → P a → Q a) → IfOk r P → IfOk r Q
+if_ok_weaker (Ok a) P Q weaker h = weaker a h
+if_ok_weaker (Err e) P Q weaker h = tt

@@ -304,7 +304,7 @@ fn conditions_of_constructors(rt: HostRuntime) -> Result<(), Fail> {
         ("c(t) { 2 * t = x } is x", 13),
         ("c(t) { t@[0:7] = x } is x", 13),
         ("c(v) { v@[0:3] = x!, v@[4:31] = 0 } is x", 13),
-        ("c(a, b) { a + b = x } is x", 13),
+        ("c(n, m) { n + m = x } is x", 13),
         ("c(t) { t = 4 * L } is L: w = 1", 13),
         ("c() is epsilon", 14),
         (
@@ -396,7 +396,7 @@ fn accepted_constructors(rt: HostRuntime) -> Result<(), Fail> {
             &sound(spec.as_str(), "match case x = 2 => \"two\"", b"\x02"),
         )?;
         assert_eq!(rt; found, Status::Done);
-        assert_eq!(rt; out.bytes(), b"00000000: 02  two\n");
+        assert_eq!(rt; out.bytes(), b"00000000: 02  two\n".as_slice());
         assert!(rt; notes.bytes().is_empty());
     }
     Ok(())
