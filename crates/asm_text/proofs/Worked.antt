@@ -1,7 +1,13 @@
 -- What the definitions say of a few numbers and texts.
-use Rattle.std.proofs.Common.{◌≡◌, [], ◌∷◌, pos, refl}
+use Rattle.std.proofs.Common.{◌≡◌, [], ◌∷◌, pos, All, refl, arith}
+use Rattle.std.proofs.lemmas.List.Elements.{All-nil, All-cons}
+use Rattle.std.specs.List.{flat_map}
 use Rattle.std.specs.Prelude.{codes, negsuc}
 use Rattle.std.specs.Fmt.{digits}
+use Rattle.sled_model.specs.declared.instance.Operand.TheVariants.{Num}
+use Rattle.sled_model.specs.declared.spec.Spec.{Spec}
+use Rattle.sled_model.specs.declared.statement.Piece.TheVariants.{Words, Bound}
+use Rattle.asm_text.specs.Actions.{NamesBelow, piece_text}
 use Rattle.asm_text.specs.Numbers.{number_text}
 use Rattle.asm_text.specs.Instances.{joined}
 
@@ -31,3 +37,13 @@ one_operand = refl
 
 three_operands : joined (codes "29" ∷ codes "29" ∷ codes "-32" ∷ []) ≡ codes "29, 29, -32"
 three_operands = refl
+
+-- the action `load {v}` names none but the first name
+pub load_names_known : All (NamesBelow 1) (Words (codes "load ") ∷ Bound 0 ∷ [])
+load_names_known =
+    All-cons (NamesBelow 1) (Words (codes "load ")) (Bound 0 ∷ []) tt (All-cons (NamesBelow 1) (Bound 0) [] (omega arith) (All-nil (NamesBelow 1)))
+
+-- where the name's value is 5 it reads `load 5`
+load_five : (spec : Spec) → flat_map (piece_text spec (Num (pos 5) ∷ [])) (Words (codes "load ") ∷ Bound 0 ∷ []) ≡ codes "load 5"
+unfolding digits
+load_five spec = refl

@@ -1,5 +1,5 @@
 -- What the description admits has a text where it holds no address of a label.
-use Rattle.std.proofs.Common.{◌≡◌, Bool, true, false, List, [], ◌∷◌, All, Option, Some, None, IsSome, slice_get, refl, sym, ap, ◌∙◌, subst}
+use Rattle.std.proofs.Common.{◌≡◌, Bool, true, false, List, [], ◌∷◌, All, Option, Some, None, IsSome, slice_get, refl, sym, ap, ◌∙◌, subst, ℤ}
 use Rattle.std.specs.Prelude.{◌&&◌}
 use Rattle.std.specs.Option.{option_map, option_map_or}
 use Rattle.std.proofs.lemmas.List.Elements.{All-nil, All-cons, All-head, All-tail}
@@ -7,7 +7,7 @@ use Rattle.sled_model.specs.declared.constructor.OperandKind.{OperandKind}
 use Rattle.sled_model.specs.declared.constructor.TypeId.{TypeId}
 use Rattle.sled_model.specs.declared.constructor.Constructor.{Constructor}
 use Rattle.sled_model.specs.declared.instance.Instance.{Instance}
-use Rattle.sled_model.specs.declared.instance.Operand.{Operand, Row_of-Instance, end_of-Instance, more_of-Instance, Row_of-Operand, end_of-Operand, more_of-Operand, items-the_row-Operand, items_hidden-the_row-Operand-0, roll-Operand, out-Operand, roll-out-Operand}
+use Rattle.sled_model.specs.declared.instance.Operand.{Operand, Row_of-Instance, end_of-Instance, more_of-Instance, Row_of-Operand, end_of-Operand, more_of-Operand, items-the_row-Operand, items_hidden-the_row-Operand-0, roll-Operand, out-Operand, roll-out-Operand, out-roll-Operand}
 use Rattle.sled_model.specs.declared.instance.Operand.TheOpen.{Operand-F}
 use Rattle.sled_model.specs.declared.instance.Operand.TheOpen as one
 use Rattle.sled_model.specs.declared.instance.Operand.TheBlock.{hidden-the_row-Instance-1, hidden-the_row-Operand-0}
@@ -68,6 +68,22 @@ unfolding hidden-the_row-Instance-1 hidden
 HasNoPlace-Sub i h = RowsHaveNoPlace-from_all (hidden-the_row-Operand-0 i.operands) (subst (All HasNoPlace) (sym (items_hidden-the_row-Operand-0 i.operands)) h)
 
 -- ---- what is admitted
+
+abbrev layer_of : Instance → Operand-F Operand Instance
+layer_of i = one.Sub i
+
+same_layer : (i j : Instance) → Sub i ≡ Sub j → layer_of i ≡ layer_of j
+same_layer i j e = sym (out-roll-Operand (layer_of i)) ∙ ap out-Operand (rolls-Sub i ∙ e ∙ sym (rolls-Sub j)) ∙ out-roll-Operand (layer_of j)
+
+-- a number is no instance
+pub IsAdmitted-Num : (spec : Spec) (n : ℤ) → IsAdmitted spec (Num n)
+IsAdmitted-Num spec n i e = cc
+
+-- an operand that is an instance is admitted where the instance is
+pub IsAdmitted-Sub : (spec : Spec) (i : Instance) → admits spec i ≡ true → IsAdmitted spec (Sub i)
+IsAdmitted-Sub spec i h j e =
+    let layers = same_layer i j e in let same : i ≡ j = cc in
+    subst (λ k. admits spec k ≡ true) same h
 
 is_known : (f : Constructor → Bool) (c : Option Constructor) → option_map_or f c false ≡ true → IsSome c
 is_known f None h = cc

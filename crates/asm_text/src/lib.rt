@@ -8,6 +8,8 @@
 mod actions;
 mod bytes;
 mod instances;
+#[cfg(test)]
+mod tests;
 
 pub use actions::write_action;
 pub use instances::write_instance;
