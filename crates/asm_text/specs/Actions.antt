@@ -1,5 +1,5 @@
 -- The action of an arm as text, with the values of its names.
-use Rattle.std.specs.Prelude.{ℕ, ◌<◌, List, [], length, slice_get}
+use Rattle.std.specs.Prelude.{ℕ, ◌<◌, List, [], slice_get}
 use Rattle.std.specs.List.{flat_map}
 use Rattle.std.specs.Option.{option_map_or}
 use Rattle.sled_model.specs.declared.instance.Operand.{Operand}

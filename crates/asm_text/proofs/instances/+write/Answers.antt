@@ -1,7 +1,7 @@
-use Rattle.std.proofs.Common.{◌≡◌, ◌<◌, ◌++◌, [], ◌∷◌, length, map, take, ap, sym, ◌∙◌, arith, rules}
+use Rattle.std.proofs.Common.{◌<◌, ◌++◌, [], ◌∷◌, length, map, take, ap, sym, ◌∙◌, arith, rules}
 use Rattle.std.proofs.lemmas.Result.{on_ok_weaker, on_err_weaker}
 use Rattle.sled_model.specs.declared.instance.Operand.TheViews.{the_lemmas}
-use Rattle.asm_text.specs.Instances.{constructor_name, separator_before, joined, operand_text, instance_text}
+use Rattle.asm_text.specs.Instances.{constructor_name, separator_before, joined, operand_text}
 use Rattle.asm_text.proofs.PrefixLemmas.{prefix_first, prefix_then, prefix_same, appended_then, OnErr-always}
 use Rattle.asm_text.proofs.TextLaws.{operand_text-inner, joined_more, joined_prefix}
 use Rattle.asm_text.proofs.WritableLaws.{InstanceHasText_inner}
