@@ -1,0 +1,4 @@
+pub mod PrefixLemmas
+pub mod TextLaws
+pub mod WritableLaws
+pub mod Worked

@@ -1,0 +1,5 @@
+pub mod Prefixes
+pub mod Numbers
+pub mod Instances
+pub mod Writable
+pub mod Actions
