@@ -33,7 +33,7 @@ module _ (P : Pattern → Type 0) where
   member_all item.Skip p h = All-nil (λ m. P m.1)
 
   -- the members are among the patterns
-  members_all : (items : List ItemTree) (ps : List Pattern) → All P ps → All (λ m. P m.1) (members items ps)
+  pub members_all : (items : List ItemTree) (ps : List Pattern) → All P ps → All (λ m. P m.1) (members items ps)
   members_all [] ps h = All-nil (λ m. P m.1)
   members_all (x ∷ items) [] h = All-nil (λ m. P m.1)
   members_all (x ∷ items) (p ∷ ps) h =

@@ -59,11 +59,11 @@ module _ (declared : Declared) (outside : declared.local_names ≡ []) (many : l
 
   -- each field keeps one name, where it is no field that had one
   named_more : ((w : List ℕ) (f : FieldId) → m ≡ meaning.Field f → meaning_of declared w ≡ Some (meaning.Field f) → ⊥) → FieldsAreNamed declared → FieldsAreNamed (with_name declared name m)
-  named_more no named v w f here there = by_both (more_meaning v (meaning.Field f) here) (more_meaning w (meaning.Field f) there) where
+  named_more other named v w f here there = by_both (more_meaning v (meaning.Field f) here) (more_meaning w (meaning.Field f) there) where
     by_both : (meaning_of declared v ≡ Some (meaning.Field f)) ⊎ ((v ≡ name) × (meaning.Field f ≡ m)) → (meaning_of declared w ≡ Some (meaning.Field f)) ⊎ ((w ≡ name) × (meaning.Field f ≡ m)) → v ≡ w
     by_both (inl a) (inl b) = named v w f a b
-    by_both (inl a) (inr b) = absurd (no v f (sym b.1) a)
-    by_both (inr a) (inl b) = absurd (no w f (sym a.1) b)
+    by_both (inl a) (inr b) = absurd (other v f (sym b.1) a)
+    by_both (inr a) (inl b) = absurd (other w f (sym a.1) b)
     by_both (inr a) (inr b) = a.0 ∙ sym b.0
 
 -- ---- what is carried from name to name

@@ -34,3 +34,10 @@ loop-decl-preserved c =
           (lack_past decls i x c.loop-decl-test.true c.decl-item.is c.loop-decl.number c.next_number-number.result old new first made c.next_number-number.ensures met h);
       small = omega (arith, c.next_number-number.ensures, next_within c.loop-decl.number x, c.loop-decl.invariant.small);
     }
+
+pub returns-in-Some-clause-refused : goal.returns-in-Some-clause-refused
+returns-in-Some-clause-refused c =
+    let decls = c.args.decls.now in let x = c.decl-item.result in
+    let old = described_in c.loop-decl.description in
+    c.loop-decl.invariant.lack (Some (c.loop-decl.number, c.in-Some.lack))
+    (lack_here decls c.loop-decl.decl-index x c.loop-decl-test.true c.decl-item.is c.loop-decl.number old c.in-Some.lack (subst (IsLackOf old x) c.in-Some.is c.in_ok-lack.ensures.lack))
