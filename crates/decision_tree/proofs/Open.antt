@@ -1,10 +1,13 @@
 -- Bits that were not tested.
-use Rattle.std.proofs.Common.{◌≡◌, ◌≢◌, ℕ, ◌+◌, ◌-◌, ◌^◌, ◌<◌, ◌≤◌, max, min, Bool, true, false, List, [], ◌∷◌, length, set, slice_get, slice_index, get_or-set_other, Option, Some, None, refl, sym, ap, ◌∙◌, subst, arith, bit_and, bit_or, inl, inr, w8}
+use Rattle.std.proofs.Common.{◌≡◌, ◌≢◌, ℕ, ◌+◌, ◌-◌, ◌/◌, ◌%◌, ◌^◌, ◌<◌, ◌≤◌, max, min, Bool, true, false, List, [], ◌∷◌, length, set, slice_get, slice_index, get_or-set_other, Option, Some, None, refl, sym, ap, ◌∙◌, subst, arith, bit_and, bit_or, inl, inr, w8}
 use Rattle.std.specs.Int.{bit_at, bit_not}
 use Rattle.std.specs.Option.{option_map_or}
 use Rattle.std.proofs.lemmas.Bool.{cases_lt, leb-true}
 use Rattle.std.proofs.lemmas.Nat.Bits.{bit_at_and, bit_at_not, bit_at-lt, bit_at-zero, bit_at_above, bit_at_mask_below, bit_at_mask_above, same_from_bits}
 use Rattle.std.specs.Int.Bits.{and_zero_r}
+use Rattle.std.proofs.lemmas.Nat.{leading_top}
+use Rattle.std.proofs.Math.Nat.{div-eq_of_lt-le}
+use lib.Count.{count_leading_zeros}
 use Rattle.bit_cases.specs.declared.byte_case.ByteCase.{ByteCase}
 use Rattle.decision_tree.specs.Building.{Each, IsSure, IsUntested, AreUntested, block, stays, stays_at, kept, tested_more}
 use Rattle.decision_tree.proofs.Splits.{each_filter}
@@ -51,18 +54,20 @@ none_open m t low small e = same_from_bits (bit_and m t) m (λ i. bit i)
 pub zero_untested : (t shift width : ℕ) → t ≡ 0 → bit_and t (block shift width) ≡ 0
 zero_untested t shift width e = ap (λ x. bit_and x (block shift width)) e ∙ same_from_bits (bit_and 0 (block shift width)) 0 (λ i. let z = bit_at-zero i in simp bit_at_and (omega (arith, z)))
 
+-- where the bytes of the case were tested, all bytes were
+pub all_tested_at : (tested : List ℕ) (c : ByteCase) → ((j : ℕ) → j < c.len → bit_and (slice_index c.mask j) (slice_index tested j) ≡ slice_index c.mask j)
+    → (j : ℕ) → j < 32 → bit_and (slice_index c.mask j) (slice_index tested j) ≡ slice_index c.mask j
+all_tested_at tested c all j h = elim (cases_lt j c.len) [
+  | inl l ↦ all j l
+  | inr k ↦ (let z = c.short j h k in ap (λ x. bit_and x (slice_index tested j)) z ∙ same_from_bits (bit_and 0 (slice_index tested j)) 0 (λ i. let y = bit_at-zero i in simp bit_at_and (omega (arith, y))) ∙ sym z)
+]
+
 -- a case with no open bit, that is not sure, has its last byte untested
 pub last_untested : (tested : List ℕ) (least : ℕ) (c : ByteCase) → ((j : ℕ) → j < c.len → bit_and (slice_index c.mask j) (slice_index tested j) ≡ slice_index c.mask j) → (IsSure tested least c → ⊥) → IsUntested tested least c
     → (0 < c.len) × (slice_index tested (c.len - 1) ≡ 0)
 last_untested tested least c all open' untested = elim (cases_lt least c.len) [
   | inl l ↦ (omega arith, untested (c.len - 1) (omega arith) (omega arith))
-  | inr g ↦ absurd (open' (record {
-    long = g;
-    all = λ j h. elim (cases_lt j c.len) [
-      | inl l ↦ all j l
-      | inr k ↦ (let z = c.short j h k in ap (λ x. bit_and x (slice_index tested j)) z ∙ same_from_bits (bit_and 0 (slice_index tested j)) 0 (λ i. let y = bit_at-zero i in simp bit_at_and (omega (arith, y))) ∙ sym z)
-    ];
-  }))
+  | inr g ↦ absurd (open' (record { long = g; all = all_tested_at tested c all }))
 ]
 
 module _ (cases : List ByteCase) (tested : List ℕ) (byte shift width least : ℕ) where
@@ -82,3 +87,11 @@ module _ (cases : List ByteCase) (tested : List ℕ) (byte shift width least : �
 pub untested_first : (cases : List ByteCase) (ks : List ℕ) (tested : List ℕ) → ((j : ℕ) → j < 32 → slice_index tested j ≡ 0) → AreUntested cases ks tested 0
 untested_first cases [] tested z = tt
 untested_first cases (k ∷ ks) tested z = (λ c at j l h. z j (omega (arith, c.at_most_32)), untested_first cases ks tested z)
+
+-- the place of the highest one
+pub highest_one : (a : ℕ) → 0 < a → a < 2 ^ 8 → (count_leading_zeros 8 a < 8) × (bit_at a (7 - count_leading_zeros 8 a) ≡ 1)
+highest_one a some small =
+    let top = leading_top 8 a some small in
+    let place : 7 - count_leading_zeros 8 a ≡ top.0 = omega (arith, top.1) in
+    let quotient : a / 2 ^ top.0 ≡ 1 = div-eq_of_lt-le (2 ^ top.0) (omega (arith, top.2)) (omega (arith, top.3)) in
+    (omega (arith, top.1), ap (bit_at a) place ∙ ap (λ (x : ℕ). x % 2) quotient)

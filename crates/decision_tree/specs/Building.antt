@@ -1,5 +1,5 @@
 -- What the building of a graph keeps.
-use Rattle.std.specs.Prelude.{ℕ, zero, suc, Bool, false, ◌≡◌, ◌==◌, ◌+◌, ◌-◌, ◌*◌, ◌^◌, ◌<◌, ◌≤◌, nat_le, max, List, [], ◌∷◌, ◌++◌, length, slice_get, slice_index, set, Option, Some, None, if◌then◌else◌, bit_and, bit_or}
+use Rattle.std.specs.Prelude.{ℕ, zero, suc, Bool, false, ◌≡◌, ◌==◌, ◌+◌, ◌-◌, ◌*◌, ◌^◌, ◌<◌, ◌≤◌, ◌⊎◌, nat_le, max, List, [], ◌∷◌, ◌++◌, length, slice_get, slice_index, set, Option, Some, None, if◌then◌else◌, bit_and, bit_or}
 use Rattle.std.specs.List.{find, filter}
 use Rattle.std.specs.Option.{option_map, option_map_or}
 use Rattle.bit_cases.specs.declared.byte_case.ByteCase.{ByteCase}
@@ -38,6 +38,11 @@ pub record IsSure (tested : List ℕ) (least : ℕ) (c : ByteCase) : Type 0 wher
 
 abbrev pub IsSureAt : List ByteCase → List ℕ → ℕ → ℕ → Type 0
 IsSureAt cases tested least k = (c : ByteCase) → slice_get cases k ≡ Some c → IsSure tested least c
+
+-- the run is of open bits of the case, or one bit of its last byte where only the length is open
+abbrev pub AsksOpen : List ℕ → ByteCase → ℕ → ℕ → ℕ → Type 0
+AsksOpen tested c byte shift width = (bit_and (slice_index c.mask byte) (block shift width) ≡ block shift width)
+    ⊎ ((width ≡ 1) × (byte + 1 ≡ c.len) × (slice_index tested byte ≡ 0) × ((j : ℕ) → j < 32 → bit_and (slice_index c.mask j) (slice_index tested j) ≡ slice_index c.mask j))
 
 -- the node was made, or found
 pub record IsMade (cases : List ByteCase) (old new : List Node) (n : ℕ) (node : Node) : Type 0 where

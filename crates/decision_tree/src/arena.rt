@@ -9,7 +9,7 @@ use sled_base::NoMemory;
 use std::alloc::Global;
 use std::marker::Model;
 
-/// A contract sees the nodes by their numbers.
+/// The nodes that were made, no two of them equal. A contract sees the list of them, in the order of their numbers.
 #[derive(Drop)]
 pub struct Arena {
     nodes: IndexSet<Node>,
@@ -25,6 +25,7 @@ impl Model for Arena {
 }
 
 impl Arena {
+    /// No node yet.
     pub fn new(alloc: Global) -> Arena
         ensures { result ≡ [] }
     {
@@ -33,6 +34,7 @@ impl Arena {
         }
     }
 
+    /// How many nodes there are.
     pub fn len(&self) -> usize
         ensures len { result ≡ length self.now }
         ensures distinct { AllPairs (λ a b. a ≢ b) self.now }
@@ -40,19 +42,21 @@ impl Arena {
         self.nodes.len()
     }
 
+    /// The nodes, in the order of their numbers.
     pub fn as_slice(&self) -> &[Node]
         ensures { result.now ≡ self.now }
     {
         self.nodes.as_slice()
     }
 
+    /// The node of that number.
     pub fn get(&self, number: NodeNo) -> Option<&Node>
         ensures { option_copied result ≡ slice_get self.now number.0 }
     {
         self.nodes.get_index(number.0)
     }
 
-    /// Finds the node, or makes it.
+    /// The number of the node, which is found among the others or added.
     pub fn add(&mut self, node: Node) -> Result<NodeNo, NoMemory>
         ensures stored { IfOk result (λ n. slice_get self.new n.0 ≡ Some node) }
         ensures within { IfOk result (λ n. n.0 < length self.new) }

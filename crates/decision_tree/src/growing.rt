@@ -6,7 +6,7 @@ ghost use Rattle.decision_tree.specs.Graph.{Reaches, IsGraph, IsFormed, walk_at,
 ghost use Rattle.std.specs.Int.{bit_at};
 ghost use Rattle.decision_tree.specs.Paths.{AreRuled};
 ghost use Rattle.decision_tree.specs.Trees.{walk};
-ghost use Rattle.decision_tree.specs.Building.{IsUntested, AreUntested, FitsShort, Fits, IsMade, IsBuilt, AreKids, IsSure, IsSureAt, block, stays, kept, tested_more};
+ghost use Rattle.decision_tree.specs.Building.{IsUntested, AreUntested, FitsShort, Fits, IsMade, IsBuilt, AreKids, IsSure, IsSureAt, AsksOpen, block, stays, kept, tested_more};
 
 use crate::arena::Arena;
 use crate::graph::Tree;
@@ -157,23 +157,27 @@ fn left_behind(
     Ok(behind)
 }
 
-/// The lowest run of bits in the first byte that has bits of the case that were not tested, else a bit of its last byte.
+/// The highest run of bits that were not tested in the first byte that has such bits of the case, else bit 0 of its last byte.
 fn choose(case: &ByteCase, tested: &[u8; 32], least: u8, room: u8) -> Run
     requires room { 0 < room }
     requires unsure { IsSure tested.now least case.now → ⊥ }
     requires untested { IsUntested tested.now least case.now }
     ensures room { result.width ≤ room }
+    ensures within { result.byte < case.now.len }
     ensures untested { bit_and (slice_index tested.now result.byte) (block result.shift result.width) ≡ 0 }
-    ensures asks { (bit_and (slice_index case.now.mask result.byte) (block result.shift result.width) ≡ block result.shift result.width)
-        ⊎ ((result.width ≡ 1) × (result.byte + 1 ≡ case.now.len)) }
+    ensures asks { AsksOpen tested.now case.now result.byte result.shift result.width }
 {
     let _least = least;
     for byte in 0..case.len {
         let free = free_bits(case.mask[byte as usize], tested[byte as usize]);
         if free != 0 {
-            let shift = first_bit(free);
-            let width = run_length(free, shift, room);
-            return Run { byte, shift, width };
+            let highest = highest_bit(free);
+            let shift = run_start(free, highest, room);
+            return Run {
+                byte,
+                shift,
+                width: highest + 1 - shift,
+            };
         }
     }
     Run {
@@ -191,30 +195,29 @@ fn free_bits(mask: u8, tested: u8) -> u8
     mask & !tested
 }
 
-/// The lowest bit that is one.
-fn first_bit(free: u8) -> u8
+/// The highest bit that is one.
+fn highest_bit(free: u8) -> u8
     requires { 0 < free }
     ensures within { result < 8 }
     ensures one { bit_at free result ≡ 1 }
 {
-    free.trailing_zeros() as u8
+    7 - free.leading_zeros() as u8
 }
 
-/// How many ones stand from there on, at most so many.
-fn run_length(free: u8, shift: u8, room: u8) -> u8
+/// Where the ones begin that end with bit `highest`, of which at most `room` are taken.
+fn run_start(free: u8, highest: u8, room: u8) -> u8
     requires some { 0 < room }
-    requires within { shift < 8 }
-    requires one { bit_at free shift ≡ 1 }
-    ensures some { 0 < result }
-    ensures within { shift + result ≤ 8 }
-    ensures room { result ≤ room }
-    ensures ones { (k : ℕ) → shift ≤ k → k < shift + result → bit_at free k ≡ 1 }
+    requires within { highest < 8 }
+    requires one { bit_at free highest ≡ 1 }
+    ensures within { result ≤ highest }
+    ensures room { highest + 1 ≤ result + room }
+    ensures ones { (k : ℕ) → result ≤ k → k ≤ highest → bit_at free k ≡ 1 }
 {
-    let mut width = 1;
-    while width < room && shift + width < 8 && free >> (shift + width) & 1 == 1 {
-        width += 1;
+    let mut start = highest;
+    while start > 0 && highest - start + 1 < room && free >> (start - 1) & 1 == 1 {
+        start -= 1;
     }
-    width
+    start
 }
 
 /// The graph of the cases that are left, after these bits, with so many bits to test.
@@ -354,15 +357,17 @@ fn numbers_below(alloc: Global, count: u32) -> Result<Vec<u32>, NoMemory>
     Ok(numbers)
 }
 
-/// The graph of the cases, which tests at most `limit` bits of a window.
+/// The graph of the cases: for each window the walk ends at the first case that the window meets. On each path at most `limit` bits
+/// are tested, none of them twice, and a Check stands only where just `limit` bits were tested before. `NoMemory` where there is no
+/// memory for the nodes.
 pub fn build_within(alloc: Global, cases: &[ByteCase], limit: u8) -> Result<Tree, NoMemory>
     requires count { length cases.now ≤ 16384 }
     requires limit { limit ≤ 24 }
-    ensures cases { IfOk result (λ t. t.cases.items ≡ cases.now) }
-    ensures walk { IfOk result (λ t. (window : List ℕ) → walk t window ≡ first_met cases.now window) }
-    ensures reached { IfOk result (λ t. (m : ℕ) → m < length t.nodes → Reaches t.nodes t.root.0 m) }
-    ensures ruled { IfOk result (λ t. AreRuled t.nodes t.root.0 limit (replicate 32 0)) }
-    ensures distinct { IfOk result (λ t. AllPairs (λ a b. a ≢ b) t.nodes) }
+    ensures cases { IfOk result (λ tree. tree.cases.items ≡ cases.now) }
+    ensures walk { IfOk result (λ tree. (window : List ℕ) → walk tree window ≡ first_met cases.now window) }
+    ensures reached { IfOk result (λ tree. (number : ℕ) → number < length tree.nodes → Reaches tree.nodes tree.root.0 number) }
+    ensures distinct { IfOk result (λ tree. AllPairs (λ earlier later. earlier ≢ later) tree.nodes) }
+    ensures ruled { IfOk result (λ tree. AreRuled tree.nodes tree.root.0 limit (replicate 32 0)) }
 {
     let numbers = numbers_below(alloc, cases.len() as u32)?;
     let mut nodes = Arena::new(alloc);
@@ -372,14 +377,14 @@ pub fn build_within(alloc: Global, cases: &[ByteCase], limit: u8) -> Result<Tree
     Ok(Tree { cases, nodes, root })
 }
 
-/// The graph of the cases, which tests at most 16 bits of a window.
+/// `build_within` with a limit of 16 bits.
 pub fn build(alloc: Global, cases: &[ByteCase]) -> Result<Tree, NoMemory>
     requires { length cases.now ≤ 16384 }
-    ensures cases { IfOk result (λ t. t.cases.items ≡ cases.now) }
-    ensures walk { IfOk result (λ t. (window : List ℕ) → walk t window ≡ first_met cases.now window) }
-    ensures reached { IfOk result (λ t. (m : ℕ) → m < length t.nodes → Reaches t.nodes t.root.0 m) }
-    ensures ruled { IfOk result (λ t. AreRuled t.nodes t.root.0 16 (replicate 32 0)) }
-    ensures distinct { IfOk result (λ t. AllPairs (λ a b. a ≢ b) t.nodes) }
+    ensures cases { IfOk result (λ tree. tree.cases.items ≡ cases.now) }
+    ensures walk { IfOk result (λ tree. (window : List ℕ) → walk tree window ≡ first_met cases.now window) }
+    ensures reached { IfOk result (λ tree. (number : ℕ) → number < length tree.nodes → Reaches tree.nodes tree.root.0 number) }
+    ensures distinct { IfOk result (λ tree. AllPairs (λ earlier later. earlier ≢ later) tree.nodes) }
+    ensures ruled { IfOk result (λ tree. AreRuled tree.nodes tree.root.0 16 (replicate 32 0)) }
 {
     build_within(alloc, cases, 16)
 }
