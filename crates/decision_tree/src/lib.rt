@@ -11,6 +11,8 @@ mod graph;
 mod growing;
 mod kids;
 mod node;
+#[cfg(test)]
+mod tests;
 mod tree;
 
 pub use bits::{Bits, Peek};
