@@ -1,5 +1,5 @@
 -- A test with its kids.
-use Rattle.std.proofs.Common.{bit_and, ◌-◌, ◌≡◌, ℕ, ◌+◌, ◌/◌, ◌%◌, ◌*◌, ◌^◌, ◌<◌, ◌≤◌, max, Bool, List, [], ◌∷◌, ◌++◌, length, length-append, take, cond, slice_get, slice_index, Option, Some, None, refl, sym, ap, ◌∙◌, subst, arith, inl, inr}
+use Rattle.std.proofs.Common.{bit_and, ◌-◌, ◌≡◌, ℕ, ◌+◌, ◌/◌, ◌%◌, ◌*◌, ◌^◌, ◌<◌, ◌≤◌, ◌⊎◌, max, Bool, List, [], ◌∷◌, ◌++◌, length, length-append, take, cond, slice_get, slice_index, Option, Some, None, refl, sym, ap, ◌∙◌, subst, arith, inl, inr}
 use Rattle.std.specs.List.{filter}
 use Rattle.std.specs.Option.{option_map, option_map_or}
 use Rattle.std.proofs.lemmas.Bool.{cases_lt}
@@ -14,9 +14,9 @@ use Rattle.decision_tree.specs.Window.{bits_of}
 use Rattle.decision_tree.specs.declared.node.Node.TheVariants.{Leaf, Test}
 use Rattle.decision_tree.specs.Graph.{test_link, walk_at, IsGraph, IsLink, Reaches}
 use Rattle.decision_tree.specs.Graph.Reaches.{here, along}
-use Rattle.decision_tree.specs.Building.{block, first_among, Fits, FitsShort, IsMade, IsBuilt, AreKids, stays, stays_at, kept, tested_more}
-use Rattle.decision_tree.specs.Paths.{AreRuled}
-use Rattle.decision_tree.proofs.Ruled.{ruled_leaf, ruled_test, ruled_grown}
+use Rattle.decision_tree.specs.Building.Ruled.{ruled_leaf, ruled_test}
+use Rattle.decision_tree.specs.Building.{block, first_among, Fits, FitsShort, IsMade, IsBuilt, AreKids, IsOpenTest, IsLeafAt, Ruled, place, stays, stays_at, kept, tested_more}
+use Rattle.decision_tree.proofs.Ruled.{ruled_grown, dead_stays}
 use Rattle.decision_tree.proofs.Walks.{value_below}
 use Rattle.decision_tree.proofs.Made.{reach_grown, grown_twice, walk_stays, stays_within}
 use Rattle.decision_tree.proofs.Splits.{none_past, first_kept, fits_kept}
@@ -48,14 +48,16 @@ get_end xs y = get_or-append_seam xs y [] 0
 -- one more kid
 pub kids_more : (cases : List ByteCase) (a b d : List Node) (kids left : List ℕ) (room : ℕ) (tested : List ℕ) (least byte shift width kid : ℕ)
     → AreKids cases a b kids left room tested least byte shift width
-    → IsBuilt cases b d kid (kept cases byte shift width (Some (length kids)) left) room tested (Fits cases (kept cases byte shift width (Some (length kids)) left) tested least)
+    → IsBuilt cases b d kid (kept cases byte shift width (Some (length kids)) left) room tested least (Fits cases (kept cases byte shift width (Some (length kids)) left) tested least)
     → AreKids cases a d (kids ++ kid ∷ []) left room tested least byte shift width
 kids_more cases a b d kids left room tested least byte shift width kid ks k = record {
   grown = grown_twice a b d ks.grown k.grown;
   graph = k.graph;
   ruled = λ v h. elim (cases_lt v (length kids)) [
-    | inl l ↦ subst (λ i. AreRuled d i room tested) (sym (get_first kids kid v l)) (ruled_grown (length cases) b d k.grown.0 ks.graph k.grown.1 (slice_index kids v) room tested (ks.within v l) (ks.ruled v l))
-    | inr g ↦ (let e : v ≡ length kids = last v h g in subst (λ i. AreRuled d i room tested) (sym (ap (slice_index (kids ++ kid ∷ [])) e ∙ get_end kids kid)) k.ruled)
+    | inl l ↦ subst (λ i. Ruled cases d i (place room tested (kept cases byte shift width (Some v) left) least)) (sym (get_first kids kid v l)) (ruled_grown cases b d k.grown (slice_index kids v) _ (ks.ruled v l))
+    | inr g ↦ (let e : v ≡ length kids = last v h g in
+        subst (λ u. Ruled cases d (slice_index (kids ++ kid ∷ []) u) (place room tested (kept cases byte shift width (Some u) left) least)) (sym e)
+        (subst (λ i. Ruled cases d i (place room tested (kept cases byte shift width (Some (length kids)) left) least)) (sym (get_end kids kid)) k.ruled))
   ];
   fresh = λ m g l. elim (cases_lt m (length b)) [
     | inl x ↦ (let r = ks.fresh m g x in (r.0, more_within r.0 r.1, subst (λ i. Reaches d i m) (sym (get_first kids kid r.0 r.1)) (reach_grown b d k.grown (slice_index kids r.0) m r.2)))
@@ -85,16 +87,16 @@ kids_more cases a b d kids left room tested least byte shift width kid ks k = re
 -- the test
 pub tested_built : (cases : List ByteCase) (a b d e : List Node) (short : ℕ) (kids : List ℕ) (n : ℕ) (left tested more : List ℕ) (room least byte shift width : ℕ)
     → byte < length tested → byte < 32 → more ≡ tested_more byte shift width tested
-    → IsBuilt cases a b short (kept cases byte shift width None left) (room - width) more (FitsShort cases (kept cases byte shift width None left) more least byte)
+    → IsBuilt cases a b short (kept cases byte shift width None left) (room - width) more least (FitsShort cases (kept cases byte shift width None left) more least byte)
     → AreKids cases b d kids left (room - width) more (max least (byte + 1)) byte shift width
     → length kids ≡ 2 ^ width
     → IsMade cases d e n (Test byte shift width kids (record { 0 = short }))
-    → width ≤ room → bit_and (slice_index tested byte) (block shift width) ≡ 0
-    → IsBuilt cases a e n left room tested (Fits cases left tested least)
-tested_built cases a b d e short kids n left tested more room least byte shift width within below same s k each m fits' untested = record {
-  ruled = ruled_test e n room tested byte shift width kids (record { 0 = short }) m.at fits' untested
-      (subst (AreRuled e short (room - width)) same (ruled_grown (length cases) b e (grown_twice b d e k.grown m.grown).0 s.graph (grown_twice b d e k.grown m.grown).1 short (room - width) more s.within s.ruled))
-      (λ v h. subst (AreRuled e (slice_index kids v) (room - width)) same (ruled_grown (length cases) d e m.grown.0 k.graph m.grown.1 (slice_index kids v) (room - width) more (k.within v h) (k.ruled v h)));
+    → IsOpenTest cases (place room tested left least) byte shift width → (least ≤ byte) ⊎ IsLeafAt b short
+    → IsBuilt cases a e n left room tested least (Fits cases left tested least)
+tested_built cases a b d e short kids n left tested more room least byte shift width within below same s k each m asks dead = record {
+  ruled = ruled_test byte shift width kids (record { 0 = short }) m.at asks (dead_stays b e (grown_twice b d e k.grown m.grown) short least byte dead)
+      (subst (λ t. Ruled cases e short (place (room - width) t (kept cases byte shift width None left) least)) same (ruled_grown cases b e (grown_twice b d e k.grown m.grown) short _ s.ruled))
+      (λ v h. subst (λ t. Ruled cases e (slice_index kids v) (place (room - width) t (kept cases byte shift width (Some v) left) (max least (byte + 1)))) same (ruled_grown cases d e m.grown (slice_index kids v) _ (k.ruled v h)));
   grown = grown_twice a b e s.grown (grown_twice b d e k.grown m.grown);
   graph = m.graph;
   within = m.within;
@@ -131,9 +133,9 @@ tested_built cases a b d e short kids n left tested more room least byte shift w
         ∙ sym (first_kept cases tested window byte shift width within below (Some value) takes left)
 
 -- a leaf where no window comes
-pub leaf_built : (cases : List ByteCase) (a b : List Node) (n : ℕ) (ks more : List ℕ) (room least byte : ℕ) → byte < least → IsMade cases a b n (Leaf None) → IsBuilt cases a b n ks room more (FitsShort cases ks more least byte)
+pub leaf_built : (cases : List ByteCase) (a b : List Node) (n : ℕ) (ks more : List ℕ) (room least byte : ℕ) → byte < least → IsMade cases a b n (Leaf None) → IsBuilt cases a b n ks room more least (FitsShort cases ks more least byte)
 leaf_built cases a b n ks more room least byte h m = record {
-  ruled = ruled_leaf b n room more None m.at;
+  ruled = ruled_leaf None m.at tt;
   grown = m.grown;
   graph = m.graph;
   within = m.within;

@@ -18,7 +18,7 @@ use Rattle.decision_tree.specs.Window.{bits_of}
 use Rattle.decision_tree.specs.Graph.{is_met, is_met_at, case_no, walk_at}
 use Rattle.decision_tree.specs.Building.{Each, first_among, IsLike, IsLikeAt, Fits, IsSure, IsSureAt, block, stays, stays_at, kept, tested_more}
 
-power_le : (a b : ℕ) → a ≤ b → 2 ^ a ≤ 2 ^ b
+pub power_le : (a b : ℕ) → a ≤ b → 2 ^ a ≤ 2 ^ b
 power_le a b h = elim (cases_lt a b) [
   | inl l ↦ (let p = pow_below a b l in omega (arith, p))
   | inr g ↦ (let e : a ≡ b = omega arith in omega (arith, ap (λ n. 2 ^ n) e))

@@ -1,12 +1,12 @@
 //! The building of a graph.
-ghost use Rattle.std.specs.Prelude.{◌⊎◌, slice_index, bit_and, replicate, ◌↔◌, AllPairs, ◌≢◌, All, IfSome, ◌≡◌, ◌+◌, ◌-◌, ◌^◌, ◌<◌, ◌≤◌, List, ℕ, length, slice_get, Some, None, IsTrue, IfOk, OnOk, max, set};
+ghost use Rattle.std.specs.Prelude.{◌⊎◌, slice_index, bit_and, ◌↔◌, AllPairs, ◌≢◌, All, IfSome, ◌≡◌, ◌+◌, ◌-◌, ◌^◌, ◌<◌, ◌≤◌, List, ℕ, length, slice_get, Some, None, IsTrue, IfOk, OnOk, max, set};
 ghost use Rattle.std.specs.List.{range_with_len};
 ghost use Rattle.std.specs.Option.{option_map};
 ghost use Rattle.decision_tree.specs.Graph.{Reaches, IsGraph, IsFormed, walk_at, first_met, next, answer_of};
 ghost use Rattle.std.specs.Int.{bit_at};
 ghost use Rattle.decision_tree.specs.Paths.{AreRuled};
 ghost use Rattle.decision_tree.specs.Trees.{walk};
-ghost use Rattle.decision_tree.specs.Building.{IsUntested, AreUntested, FitsShort, Fits, IsMade, IsBuilt, AreKids, IsSure, IsSureAt, AsksOpen, block, stays, kept, tested_more};
+ghost use Rattle.decision_tree.specs.Building.{IsUntested, AreUntested, FitsShort, Fits, IsLeafAt, IsMade, IsBuilt, AreKids, IsSure, IsSureAt, AsksOpen, block, stays, kept, tested_more};
 
 use crate::arena::Arena;
 use crate::graph::Tree;
@@ -99,7 +99,7 @@ fn chain(
     requires within { front ≤ length left.now }
     requires sure { (k : ℕ) → slice_get left.now front ≡ Some k → IsSureAt cases.now tested.now least k }
     requires spent { 0 < front → room ≡ 0 }
-    ensures { IfOk result (λ n. IsBuilt cases.now nodes.old nodes.new n.0 left.now room tested.now (Fits cases.now left.now tested.now least)) }
+    ensures { IfOk result (λ n. IsBuilt cases.now nodes.old nodes.new n.0 left.now room tested.now least (Fits cases.now left.now tested.now least)) }
 {
     let _spent = (tested[0], least, room);
     let mut i = front;
@@ -235,7 +235,7 @@ fn grow(
     requires left { All (λ k. k < length cases.now) left.now }
     requires tested { length tested.now ≡ 32 }
     requires untested { AreUntested cases.now left.now tested.now least }
-    ensures { IfOk result (λ n. IsBuilt cases.now nodes.old nodes.new n.0 left.now room tested.now (Fits cases.now left.now tested.now least)) }
+    ensures { IfOk result (λ n. IsBuilt cases.now nodes.old nodes.new n.0 left.now room tested.now least (Fits cases.now left.now tested.now least)) }
 {
     if room == 0 {
         let front = open_front(cases, left, tested, least);
@@ -298,7 +298,8 @@ fn grow_short(
     requires left { All (λ k. k < length cases.now) left.now }
     requires tested { length tested.now ≡ 32 }
     requires untested { AreUntested cases.now (kept cases.now run.byte run.shift run.width None left.now) tested.now least }
-    ensures { IfOk result (λ n. IsBuilt cases.now nodes.old nodes.new n.0 (kept cases.now run.byte run.shift run.width None left.now) room tested.now
+    ensures dead { IfOk result (λ n. (least ≤ run.byte) ⊎ IsLeafAt nodes.new n.0) }
+    ensures built { IfOk result (λ n. IsBuilt cases.now nodes.old nodes.new n.0 (kept cases.now run.byte run.shift run.width None left.now) room tested.now least
         (FitsShort cases.now (kept cases.now run.byte run.shift run.width None left.now) tested.now least run.byte)) }
 {
     if least > run.byte {
@@ -367,7 +368,7 @@ pub fn build_within(alloc: Global, cases: &[ByteCase], limit: u8) -> Result<Tree
     ensures walk { IfOk result (λ tree. (window : List ℕ) → walk tree window ≡ first_met cases.now window) }
     ensures reached { IfOk result (λ tree. (number : ℕ) → number < length tree.nodes → Reaches tree.nodes tree.root.0 number) }
     ensures distinct { IfOk result (λ tree. AllPairs (λ earlier later. earlier ≢ later) tree.nodes) }
-    ensures ruled { IfOk result (λ tree. AreRuled tree.nodes tree.root.0 limit (replicate 32 0)) }
+    ensures ruled { IfOk result (λ tree. AreRuled cases.now tree.nodes tree.root.0 limit) }
 {
     let numbers = numbers_below(alloc, cases.len() as u32)?;
     let mut nodes = Arena::new(alloc);
@@ -384,7 +385,7 @@ pub fn build(alloc: Global, cases: &[ByteCase]) -> Result<Tree, NoMemory>
     ensures walk { IfOk result (λ tree. (window : List ℕ) → walk tree window ≡ first_met cases.now window) }
     ensures reached { IfOk result (λ tree. (number : ℕ) → number < length tree.nodes → Reaches tree.nodes tree.root.0 number) }
     ensures distinct { IfOk result (λ tree. AllPairs (λ earlier later. earlier ≢ later) tree.nodes) }
-    ensures ruled { IfOk result (λ tree. AreRuled tree.nodes tree.root.0 16 (replicate 32 0)) }
+    ensures ruled { IfOk result (λ tree. AreRuled cases.now tree.nodes tree.root.0 16) }
 {
     build_within(alloc, cases, 16)
 }
