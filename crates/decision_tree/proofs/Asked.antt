@@ -1,5 +1,5 @@
 -- What each byte of a case says of the test.
-use Rattle.std.proofs.Common.{◌≡◌, ◌≢◌, ℕ, ◌<◌, ◌≤◌, ◌/◌, ◌%◌, ◌^◌, Bool, true, false, List, length, slice_get, slice_index, Option, Some, None, refl, sym, ap, ◌∙◌, subst, arith, bit_and}
+use Rattle.std.proofs.Common.{◌≡◌, ◌≢◌, ℕ, ◌<◌, ◌≤◌, ◌/◌, ◌%◌, ◌^◌, Bool, true, false, List, length, slice_get, slice_index, Option, Some, None, refl, sym, ap, ◌∙◌, arith, bit_and}
 use Rattle.std.specs.Option.{option_map}
 use Rattle.bit_cases.specs.Bits.{Meets, AgreesAt}
 use Rattle.bit_cases.specs.declared.byte_case.ByteCase.{ByteCase}

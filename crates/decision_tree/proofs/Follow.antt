@@ -1,20 +1,19 @@
 -- What holds of the node at the end of a path.
-use Rattle.std.proofs.Common.{◌≡◌, ◌≢◌, ℕ, zero, suc, ◌+◌, ◌-◌, ◌*◌, ◌/◌, ◌%◌, ◌^◌, ◌<◌, ◌≤◌, ◌⊎◌, inl, inr, max, min, Bool, true, false, cond, List, [], ◌∷◌, length, replicate, slice_get, slice_index, Option, Some, None, refl, sym, ap, ◌∙◌, subst, arith, bit_and}
+use Rattle.std.proofs.Common.{◌≡◌, ℕ, zero, suc, ◌+◌, ◌*◌, ◌/◌, ◌%◌, ◌^◌, ◌<◌, ◌≤◌, ◌⊎◌, inl, inr, Bool, true, false, cond, List, [], ◌∷◌, length, replicate, slice_get, slice_index, Option, Some, None, refl, sym, ap, ◌∙◌, subst, arith, bit_and}
 use Rattle.std.specs.List.{range_with_len, position_from}
 use Rattle.std.specs.Option.{option_map, option_map_or}
 use Rattle.std.specs.Int.{bit_at}
-use Rattle.std.proofs.lemmas.Nat.{pow_pos}
 use Rattle.std.proofs.lemmas.Bool.{leb-true, eqb-true}
-use Rattle.std.proofs.lemmas.Option.{slice_get_within, slice_get-get_or}
-use Rattle.std.proofs.lemmas.Nat.Bits.{bit_at_and, bit_at-lt, bit_at-zero, bit_at-pow_same, bit_at_mask_inside}
+use Rattle.std.proofs.lemmas.Option.{slice_get_within}
+use Rattle.std.proofs.lemmas.Nat.Bits.{bit_at_and, bit_at-zero, bit_at-pow_same, bit_at_mask_inside}
 use Rattle.std.proofs.Math.ListN.{length-set}
 use Rattle.bit_cases.specs.declared.byte_case.ByteCase.{ByteCase}
 use Rattle.decision_tree.specs.declared.node.CaseNo.{CaseNo}
 use Rattle.decision_tree.specs.declared.node.NodeNo.{NodeNo}
 use Rattle.decision_tree.specs.declared.node.Node.{Node}
 use Rattle.decision_tree.specs.declared.node.Node.TheVariants.{Leaf, Check, Test}
-use Rattle.decision_tree.specs.Window.{bits_of, block, tested_more}
-use Rattle.decision_tree.specs.Graph.{is_met, is_met_at, case_no, first_met, test_link, next, answer_of, walk_at, IsGraph, IsTest, IsLink}
+use Rattle.decision_tree.specs.Window.{block, tested_more}
+use Rattle.decision_tree.specs.Graph.{is_met, is_met_at, case_no, first_met, test_link, walk_at, IsGraph, IsLink}
 use Rattle.decision_tree.specs.Paths.{Passed, passing, LeadsTo, Path, widths, tested_by, TakesAll, IsLeft, IsFirstLeft, AsksOpen, IsRuledTest, IsRuled, AreRuled}
 use Rattle.decision_tree.specs.Paths.Path.{ends, checks, tests}
 use Rattle.decision_tree.specs.Building.{Each, stays, stays_at, kept, Place, place, least_behind, behind, Has, IsAmong, IsOpenTest, IsLeafAt, Ruled}
@@ -22,7 +21,6 @@ use Rattle.decision_tree.specs.Building.Ruled.{ruled_leaf, ruled_check, ruled_te
 use Rattle.decision_tree.proofs.Walks.{walk_step, value_below}
 use Rattle.decision_tree.proofs.Splits.{each_at, each_filter, none_past, power_le}
 use Rattle.decision_tree.proofs.Ruled.{has_kept}
-use Rattle.decision_tree.proofs.Laid.{Suits, window_of}
 use Rattle.decision_tree.proofs.Leftover.{EndsBefore, HasWindow, is_left, StepsOk, steps_behind, step_new, window_behind, covered, Ascends, ascends_filter, first_least, ascends_range, has_range}
 
 -- ---- a node by its kind

@@ -1,6 +1,5 @@
 -- A test with its kids.
-use Rattle.std.proofs.Common.{bit_and, ◌-◌, ◌≡◌, ℕ, ◌+◌, ◌/◌, ◌%◌, ◌*◌, ◌^◌, ◌<◌, ◌≤◌, ◌⊎◌, max, Bool, List, [], ◌∷◌, ◌++◌, length, length-append, take, cond, slice_get, slice_index, Option, Some, None, refl, sym, ap, ◌∙◌, subst, arith, inl, inr}
-use Rattle.std.specs.List.{filter}
+use Rattle.std.proofs.Common.{◌-◌, ◌≡◌, ℕ, ◌+◌, ◌/◌, ◌%◌, ◌^◌, ◌<◌, ◌≤◌, ◌⊎◌, max, Bool, List, [], ◌∷◌, ◌++◌, length, length-append, take, cond, slice_get, slice_index, Option, Some, None, refl, sym, ap, ◌∙◌, subst, arith, inl, inr}
 use Rattle.std.specs.Option.{option_map, option_map_or}
 use Rattle.std.proofs.lemmas.Bool.{cases_lt}
 use Rattle.std.proofs.lemmas.Option.{slice_get_within}
@@ -12,10 +11,10 @@ use Rattle.bit_cases.specs.declared.byte_case.ByteCase.{ByteCase}
 use Rattle.decision_tree.specs.declared.node.Node.{Node}
 use Rattle.decision_tree.specs.Window.{bits_of}
 use Rattle.decision_tree.specs.declared.node.Node.TheVariants.{Leaf, Test}
-use Rattle.decision_tree.specs.Graph.{test_link, walk_at, IsGraph, IsLink, Reaches}
+use Rattle.decision_tree.specs.Graph.{test_link, walk_at, Reaches}
 use Rattle.decision_tree.specs.Graph.Reaches.{here, along}
 use Rattle.decision_tree.specs.Building.Ruled.{ruled_leaf, ruled_test}
-use Rattle.decision_tree.specs.Building.{block, first_among, Fits, FitsShort, IsMade, IsBuilt, AreKids, IsOpenTest, IsLeafAt, Ruled, place, stays, stays_at, kept, tested_more}
+use Rattle.decision_tree.specs.Building.{first_among, Fits, FitsShort, IsMade, IsBuilt, AreKids, IsOpenTest, IsLeafAt, Ruled, place, stays, stays_at, kept, tested_more}
 use Rattle.decision_tree.proofs.Ruled.{ruled_grown, dead_stays}
 use Rattle.decision_tree.proofs.Walks.{value_below}
 use Rattle.decision_tree.proofs.Made.{reach_grown, grown_twice, walk_stays, stays_within}

@@ -1,16 +1,16 @@
 -- The cases that are left behind the tests of a path, each with a window that meets it and takes their links.
-use Rattle.std.proofs.Common.{◌≡◌, ◌≢◌, ℕ, zero, suc, ◌+◌, ◌-◌, ◌*◌, ◌/◌, ◌%◌, ◌^◌, ◌<◌, ◌≤◌, ◌⊎◌, inl, inr, max, Bool, true, false, cond, List, [], ◌∷◌, length, set, slice_get, slice_index, Option, Some, None, refl, sym, ap, ◌∙◌, subst, arith, bit_and, bit_or, get_or-set_same, get_or-set_other}
+use Rattle.std.proofs.Common.{◌≡◌, ℕ, zero, suc, ◌+◌, ◌*◌, ◌/◌, ◌%◌, ◌^◌, ◌<◌, ◌≤◌, inl, inr, max, Bool, true, false, cond, List, [], ◌∷◌, length, slice_get, slice_index, Option, Some, None, refl, sym, ap, ◌∙◌, subst, arith, bit_and, bit_or, get_or-set_same, get_or-set_other}
 use Rattle.std.specs.List.{filter, range_with_len}
-use Rattle.std.specs.Option.{option_map, option_map_or}
+use Rattle.std.specs.Option.{option_map_or}
 use Rattle.std.specs.Int.{bit_at}
-use Rattle.std.proofs.lemmas.Bool.{cases_lt, cases_eq, leb-true, eqb-true}
+use Rattle.std.proofs.lemmas.Bool.{cases_eq, leb-true, eqb-true}
 use Rattle.std.proofs.lemmas.Nat.Bits.{bit_at_and, bit_at_or, bit_at-lt, same_from_bits}
 use Rattle.bit_cases.specs.declared.byte_case.ByteCase.{ByteCase}
 use Rattle.decision_tree.specs.Window.{bits_of, block, tested_more}
 use Rattle.decision_tree.specs.Graph.{is_met, is_met_at}
 use Rattle.decision_tree.specs.Paths.{Passed, passing, TakesAll, IsLeft}
-use Rattle.decision_tree.specs.Building.{Each, stays, stays_at, kept, Place, place, least_behind, behind, Has, IsOpenTest}
-use Rattle.decision_tree.proofs.Splits.{each_at, each_filter, goes_unmet_at}
+use Rattle.decision_tree.specs.Building.{Each, stays, stays_at, kept, Place, least_behind, Has, IsOpenTest}
+use Rattle.decision_tree.proofs.Splits.{each_filter, goes_unmet_at}
 use Rattle.decision_tree.proofs.Ruled.{has_filter}
 use Rattle.decision_tree.proofs.Laid.{laid, laid_run, laid_other, laid_met, run_value, same_run, value_under, window_of, bits_in, bits_out, Suits, suits_met, changed, changed_same, changed_other}
 

@@ -1,15 +1,15 @@
 -- A node that is added.
-use Rattle.std.proofs.Common.{◌≡◌, ℕ, zero, suc, ◌+◌, ◌<◌, ◌≤◌, ◌⊎◌, inl, inr, List, [], ◌∷◌, ◌++◌, length, slice_get, slice_index, Option, Some, None, refl, sym, ap, ◌∙◌, subst, arith, append_assoc, length-append}
+use Rattle.std.proofs.Common.{◌≡◌, ℕ, zero, suc, ◌<◌, ◌≤◌, ◌⊎◌, inl, inr, List, [], ◌∷◌, ◌++◌, length, slice_get, Option, Some, None, refl, sym, ap, ◌∙◌, subst, arith, append_assoc, length-append}
 use Rattle.std.proofs.lemmas.Bool.{cases_lt}
 use Rattle.std.proofs.lemmas.Option.{slice_get_within, get_or_from_slice_get}
 use Rattle.bit_cases.specs.declared.byte_case.ByteCase.{ByteCase}
 use Rattle.decision_tree.specs.declared.node.CaseNo.{CaseNo}
 use Rattle.decision_tree.specs.declared.node.NodeNo.{NodeNo}
 use Rattle.decision_tree.specs.declared.node.Node.{Node}
-use Rattle.decision_tree.specs.declared.node.Node.TheVariants.{Leaf, Check, Test}
+use Rattle.decision_tree.specs.declared.node.Node.TheVariants.{Check}
 use Rattle.decision_tree.specs.declared.node.Next.{Next}
 use Rattle.decision_tree.specs.declared.node.Next.TheVariants.{Done, Go}
-use Rattle.decision_tree.specs.Graph.{next, next_at, answer_of, walk_from, walk_at, IsTest, IsFormed, IsGraph, Grows, IsLink, Reaches}
+use Rattle.decision_tree.specs.Graph.{next, next_at, answer_of, walk_from, walk_at, IsFormed, IsGraph, Grows, Reaches}
 use Rattle.decision_tree.specs.Graph.Reaches.{here, along}
 use Rattle.std.proofs.Common.{AllPairs, ◌≢◌}
 use Rattle.std.proofs.Math.Seq.{get_or-append_seam}

@@ -1,15 +1,14 @@
 -- Bits that were not tested.
-use Rattle.std.proofs.Common.{◌≡◌, ◌≢◌, ℕ, ◌+◌, ◌-◌, ◌/◌, ◌%◌, ◌^◌, ◌<◌, ◌≤◌, max, min, Bool, true, false, List, [], ◌∷◌, length, set, slice_get, slice_index, get_or-set_other, Option, Some, None, refl, sym, ap, ◌∙◌, subst, arith, bit_and, bit_or, inl, inr, w8}
+use Rattle.std.proofs.Common.{◌≡◌, ◌≢◌, ℕ, ◌+◌, ◌-◌, ◌/◌, ◌%◌, ◌^◌, ◌<◌, ◌≤◌, max, false, List, [], ◌∷◌, slice_get, slice_index, get_or-set_other, Some, None, sym, ap, ◌∙◌, arith, bit_and, bit_or, inl, inr, w8}
 use Rattle.std.specs.Int.{bit_at, bit_not}
 use Rattle.std.specs.Option.{option_map_or}
 use Rattle.std.proofs.lemmas.Bool.{cases_lt, leb-true}
 use Rattle.std.proofs.lemmas.Nat.Bits.{bit_at_and, bit_at_not, bit_at-lt, bit_at-zero, bit_at_above, bit_at_mask_below, bit_at_mask_above, same_from_bits}
-use Rattle.std.specs.Int.Bits.{and_zero_r}
 use Rattle.std.proofs.lemmas.Nat.{leading_top}
 use Rattle.std.proofs.Math.Nat.{div-eq_of_lt-le}
 use lib.Count.{count_leading_zeros}
 use Rattle.bit_cases.specs.declared.byte_case.ByteCase.{ByteCase}
-use Rattle.decision_tree.specs.Building.{Each, IsSure, IsUntested, AreUntested, block, stays, stays_at, kept, tested_more}
+use Rattle.decision_tree.specs.Building.{IsSure, IsUntested, AreUntested, block, stays, stays_at, kept, tested_more}
 use Rattle.decision_tree.proofs.Splits.{each_filter}
 
 -- a run of open bits was not tested

@@ -1,22 +1,20 @@
 -- One test splits the cases that are left.
-use Rattle.std.proofs.Common.{All, ◌≡◌, ◌≢◌, ℕ, zero, suc, ◌+◌, ◌-◌, ◌*◌, ◌/◌, ◌%◌, ◌^◌, ◌<◌, ◌≤◌, max, min, Bool, true, false, cond, List, [], ◌∷◌, length, drop, slice_get, slice_index, set, Option, Some, None, refl, sym, ap, ◌∙◌, subst, arith, bit_and, bit_or, inl, inr, if◌then◌else◌}
+use Rattle.std.proofs.Common.{All, ◌≡◌, ℕ, zero, suc, ◌+◌, ◌-◌, ◌*◌, ◌/◌, ◌%◌, ◌^◌, ◌<◌, ◌≤◌, Bool, true, false, cond, List, [], ◌∷◌, length, drop, slice_get, slice_index, Option, Some, None, refl, sym, ap, ◌∙◌, subst, arith, bit_and, bit_or, inl, inr, if◌then◌else◌}
 use Rattle.std.specs.List.{find, filter}
 use Rattle.std.specs.Option.{option_map, option_map_or}
 use Rattle.std.proofs.lemmas.Nat.{pow_pos, pow_below}
 use Rattle.std.proofs.Common.{true≢false, get_or-set_same, get_or-set_other}
 use Rattle.std.proofs.lemmas.Nat.{mul-le}
 use Rattle.std.proofs.lemmas.Bool.{cases_lt, cases_eq, leb-true, le-leb, eqb-true, eq-eqb}
-use Rattle.std.proofs.lemmas.Option.{slice_get_within, slice_get-get_or, get_or_from_slice_get}
-use Rattle.bit_cases.specs.Bits.{Meets}
+use Rattle.std.proofs.lemmas.Option.{slice_get_within, get_or_from_slice_get}
 use Rattle.bit_cases.specs.declared.byte_case.ByteCase.{ByteCase}
 use Rattle.bit_cases.proofs.MeetsTest.{meets-true, meets-from}
 use Rattle.std.proofs.lemmas.Nat.Bits.{bit_at_and, bit_at_or, bit_at-zero, same_from_bits, and_high}
 use Rattle.std.specs.Int.{bit_at}
 use Rattle.decision_tree.specs.declared.node.CaseNo.{CaseNo}
-use Rattle.decision_tree.specs.declared.node.Node.{Node}
 use Rattle.decision_tree.specs.Window.{bits_of}
-use Rattle.decision_tree.specs.Graph.{is_met, is_met_at, case_no, walk_at}
-use Rattle.decision_tree.specs.Building.{Each, first_among, IsLike, IsLikeAt, Fits, IsSure, IsSureAt, block, stays, stays_at, kept, tested_more}
+use Rattle.decision_tree.specs.Graph.{is_met, is_met_at, case_no}
+use Rattle.decision_tree.specs.Building.{Each, first_among, IsLike, IsLikeAt, Fits, IsSureAt, block, stays, stays_at, kept, tested_more}
 
 pub power_le : (a b : ℕ) → a ≤ b → 2 ^ a ≤ 2 ^ b
 power_le a b h = elim (cases_lt a b) [

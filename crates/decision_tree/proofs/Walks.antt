@@ -1,5 +1,5 @@
 -- How a walk goes on.
-use Rattle.std.proofs.Common.{◌≡◌, ℕ, zero, suc, ◌+◌, ◌/◌, ◌%◌, ◌^◌, ◌<◌, ◌≤◌, Bool, true, false, List, [], ◌∷◌, ◌++◌, length, slice_get, slice_index, Option, Some, None, refl, sym, ap, ◌∙◌, subst, arith, cond}
+use Rattle.std.proofs.Common.{◌≡◌, ℕ, zero, suc, ◌+◌, ◌/◌, ◌%◌, ◌^◌, ◌<◌, Bool, true, false, List, length, slice_get, Option, Some, None, refl, sym, ap, ◌∙◌, subst, arith, cond}
 use Rattle.std.specs.Option.{option_map}
 use Rattle.bit_cases.specs.declared.byte_case.ByteCase.{ByteCase}
 use Rattle.decision_tree.specs.declared.node.CaseNo.{CaseNo}
@@ -8,7 +8,6 @@ use Rattle.decision_tree.specs.declared.node.Node.{Node}
 use Rattle.decision_tree.specs.declared.node.Node.TheVariants.{Leaf, Check, Test}
 use Rattle.decision_tree.specs.declared.node.Next.{Next}
 use Rattle.decision_tree.specs.declared.node.Next.TheVariants.{Done, Go}
-use Rattle.decision_tree.specs.Window.{bits_of}
 use Rattle.decision_tree.specs.Graph.{is_met_at, test_link, next, next_at, answer_of, walk_from, walk_at, cost, cost_at, cost_of, asks_from, asks_at, IsTest, IsFormed, IsGraph}
 use Rattle.std.proofs.lemmas.Nat.{pow_pos}
 

@@ -1,5 +1,5 @@
 -- All cases, at the root.
-use Rattle.std.proofs.Common.{◌≡◌, ℕ, zero, suc, ◌+◌, ◌<◌, Bool, false, cond, List, [], ◌∷◌, ◌++◌, length, replicate, slice_get, slice_index, Option, Some, None, refl, sym, ap, ◌∙◌, subst, arith, bit_and}
+use Rattle.std.proofs.Common.{◌≡◌, ℕ, zero, suc, ◌+◌, ◌<◌, false, cond, List, [], ◌∷◌, ◌++◌, length, replicate, slice_get, slice_index, Some, refl, sym, ap, ◌∙◌, subst, arith, bit_and}
 use Rattle.std.specs.List.{find, position_from, range_with_len}
 use Rattle.std.specs.Option.{option_map, option_map_or}
 use Rattle.std.specs.Int.Bits.{and_zero_r}
@@ -9,7 +9,7 @@ use Rattle.bit_cases.specs.declared.byte_case.ByteCase.{ByteCase}
 use Rattle.bit_cases.proofs.Bytes.{zeros}
 use Rattle.decision_tree.specs.declared.node.Node.{Node}
 use Rattle.decision_tree.specs.Graph.{is_met, is_met_at, case_no, first_met, IsGraph}
-use Rattle.decision_tree.specs.Building.{Each, first_among, IsLike, IsLikeAt, Fits}
+use Rattle.decision_tree.specs.Building.{Each, first_among, IsLikeAt, Fits}
 
 pub empty_graph : (count : ℕ) (nodes : List Node) → nodes ≡ [] → IsGraph count nodes
 empty_graph count nodes e = subst (IsGraph count) (sym e) (record { formed = λ n node at. absurd (none n node at) })

@@ -1,5 +1,5 @@
 -- What the building of a graph keeps.
-use Rattle.std.specs.Prelude.{ℕ, zero, suc, Bool, false, ◌≡◌, ◌==◌, ◌+◌, ◌-◌, ◌*◌, ◌^◌, ◌<◌, ◌≤◌, ◌⊎◌, nat_le, max, List, [], ◌∷◌, ◌++◌, length, slice_get, slice_index, set, Option, Some, None, if◌then◌else◌, bit_and, bit_or}
+use Rattle.std.specs.Prelude.{ℕ, Bool, false, ◌≡◌, ◌==◌, ◌+◌, ◌-◌, ◌*◌, ◌^◌, ◌<◌, ◌≤◌, ◌⊎◌, nat_le, max, List, [], ◌∷◌, ◌++◌, length, slice_get, slice_index, Option, Some, None, bit_and}
 use Rattle.std.specs.List.{find, filter}
 use Rattle.std.specs.Option.{option_map, option_map_or}
 use Rattle.bit_cases.specs.declared.byte_case.ByteCase.{ByteCase}

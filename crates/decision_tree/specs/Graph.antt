@@ -1,12 +1,11 @@
 -- Walks over the nodes.
-use Rattle.std.specs.Prelude.{ℕ, zero, suc, Bool, true, false, ◌≡◌, ◌+◌, ◌^◌, ◌<◌, ◌≤◌, ◌⊎◌, List, [], ◌∷◌, ◌++◌, length, slice_get, slice_index, All, Option, Some, None, if◌then◌else◌}
+use Rattle.std.specs.Prelude.{ℕ, zero, suc, Bool, true, false, ◌≡◌, ◌+◌, ◌^◌, ◌<◌, ◌≤◌, ◌⊎◌, List, [], ◌∷◌, ◌++◌, length, slice_get, slice_index, Option, Some, None, if◌then◌else◌}
 use Rattle.std.proofs.Props.{props}
 use Rattle.std.specs.List.{position_from}
 use Rattle.std.specs.Option.{option_map, option_map_or}
 use Rattle.bit_cases.specs.Bits.{meets}
 use Rattle.bit_cases.specs.declared.byte_case.ByteCase.{ByteCase}
 use Rattle.decision_tree.specs.declared.node.CaseNo.{CaseNo}
-use Rattle.decision_tree.specs.declared.node.NodeNo.{NodeNo}
 use Rattle.decision_tree.specs.declared.node.Node.{Node}
 use Rattle.decision_tree.specs.declared.node.Node.TheVariants.{Leaf, Check, Test}
 use Rattle.decision_tree.specs.declared.node.Next.{Next}

@@ -6,7 +6,7 @@ ghost use Rattle.decision_tree.specs.Graph.{Reaches, IsGraph, IsFormed, walk_at,
 ghost use Rattle.std.specs.Int.{bit_at};
 ghost use Rattle.decision_tree.specs.Paths.{AreRuled};
 ghost use Rattle.decision_tree.specs.Trees.{walk};
-ghost use Rattle.decision_tree.specs.Building.{IsUntested, AreUntested, FitsShort, Fits, IsLeafAt, IsMade, IsBuilt, AreKids, IsSure, IsSureAt, AsksOpen, block, stays, kept, tested_more};
+ghost use Rattle.decision_tree.specs.Building.{IsUntested, AreUntested, FitsShort, Fits, IsLeafAt, IsOpenTest, place, IsMade, IsBuilt, AreKids, IsSure, IsSureAt, AsksOpen, block, stays, kept, tested_more};
 
 use crate::arena::Arena;
 use crate::graph::Tree;
@@ -249,28 +249,33 @@ fn grow(
         return chain(cases, nodes, left, tested, least, room, 0);
     }
     let run = choose(case, tested, least, room);
+    grow_test(alloc, cases, nodes, left, tested, least, room, run)
+}
+
+/// The test of the run, with the graphs behind its links.
+#[cycle(grow)]
+fn grow_test(
+    alloc: Global,
+    cases: &[ByteCase],
+    nodes: &mut Arena,
+    left: &[u32],
+    tested: &[u8; 32],
+    least: u8,
+    room: u8,
+    run: Run,
+) -> Result<NodeNo, NoMemory>
+    requires graph { IsGraph (length cases.now) nodes.old }
+    requires left { All (λ k. k < length cases.now) left.now }
+    requires tested { length tested.now ≡ 32 }
+    requires untested { AreUntested cases.now left.now tested.now least }
+    requires asks { IsOpenTest cases.now (place room tested.now left.now least) run.byte run.shift run.width }
+    ensures { IfOk result (λ n. IsBuilt cases.now nodes.old nodes.new n.0 left.now room tested.now least (Fits cases.now left.now tested.now least)) }
+{
     let mut more = *tested;
     more[run.byte as usize] |= run.block();
-    let short = grow_short(
-        alloc,
-        cases,
-        nodes,
-        left,
-        &more,
-        least,
-        room - run.width,
-        run,
-    )?;
-    let kids = grow_kids(
-        alloc,
-        cases,
-        nodes,
-        left,
-        &more,
-        least,
-        room - run.width,
-        run,
-    )?;
+    let rest = room - run.width;
+    let short = grow_short(alloc, cases, nodes, left, &more, least, rest, run)?;
+    let kids = grow_kids(alloc, cases, nodes, left, &more, least, rest, run)?;
     let test = Node::Test {
         byte: run.byte,
         shift: run.shift,
