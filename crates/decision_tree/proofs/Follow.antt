@@ -208,14 +208,14 @@ module _ (cases : List ByteCase) (nodes : List Node) (graph : IsGraph (length ca
     pub follow : (n m : ℕ) (passed all : List Passed) (p : Place) → Path nodes n passed m all → Ruled cases nodes n p → widths passed + p.room ≡ limit
         → (IsTestAt nodes n → 0 < p.room → Alive cases nodes root n passed p) → (node : Node) → slice_get nodes m ≡ Some node → IsRuled cases limit all node
     follow n m passed all p ends ruled total alive node at = at_end n passed p total alive node at (facts cases nodes n p ruled node at)
-    follow n m passed all p (checks {k = k} c met other here link path) ruled total alive node at =
+    follow n m passed all p (checks {target = k} c met other here link path) ruled total alive node at =
         let f = facts cases nodes n p ruled (Check c met other) here in
         follow k m passed all p path (by f link) total (λ t some. absurd (omega (arith, f.0, some))) node at
       where
         by : FactsOf cases nodes p (Check c met other) → IsLink (Check c met other) k → Ruled cases nodes k p
         by f (inl e) = subst (λ i. Ruled cases nodes i p) (sym e) f.1
         by f (inr e) = subst (λ i. Ruled cases nodes i p) (sym e) f.2
-    follow n m passed all p (tests {k = k} byte shift width kids short link here leads path) ruled total alive node at =
+    follow n m passed all p (tests {target = k} byte shift width kids short link here leads path) ruled total alive node at =
         let f = facts cases nodes n p ruled (Test byte shift width kids short) here in
         let a = alive (byte, shift, width, kids, short, here) (omega (arith, f.asks.some, f.asks.fits)) in
         follow k m (passing byte shift width link ∷ passed) all (behind cases byte shift width link p) path (by f link leads) (omega (arith, total, f.asks.fits))

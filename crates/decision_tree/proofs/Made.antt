@@ -104,7 +104,7 @@ stays_within old new m n h = subst (λ x. n < length x) (sym m.1) (omega (arith,
 -- what is reached stays reached
 pub reach_grown : (old new : List Node) → ((more : List Node) × (new ≡ old ++ more)) → (n m : ℕ) → Reaches old n m → Reaches new n m
 reach_grown old new g n m here = here
-reach_grown old new g n m (along {k = k} node at link rest) =
+reach_grown old new g n m (along {target = k} node at link rest) =
     along node (ap (λ nodes. slice_get nodes n) g.1 ∙ slice_get-front old g.0 n (slice_get_within old n node at) ∙ at) link (reach_grown old new g k m rest)
 
 pub new_last : (old : List Node) (node : Node) (n : ℕ) → AllPairs (λ a b. a ≢ b) (old ++ node ∷ []) → slice_get (old ++ node ∷ []) n ≡ Some node → n ≡ length old
