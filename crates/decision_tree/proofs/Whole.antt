@@ -1,5 +1,5 @@
 -- All cases, at the root.
-use Rattle.std.proofs.Common.{◌≡◌, ℕ, zero, suc, ◌+◌, ◌<◌, false, cond, List, [], ◌∷◌, ◌++◌, length, replicate, slice_get, slice_index, Some, refl, sym, ap, ◌∙◌, subst, arith, bit_and}
+use Rattle.std.proofs.Common.{IfSome, Bool, true, ◌≤◌, ◌≡◌, ℕ, zero, suc, ◌+◌, ◌<◌, false, cond, List, [], ◌∷◌, ◌++◌, length, replicate, slice_get, slice_index, Some, refl, sym, ap, ◌∙◌, subst, arith, bit_and}
 use Rattle.std.specs.List.{find, position_from, range_with_len}
 use Rattle.std.specs.Option.{option_map, option_map_or}
 use Rattle.std.specs.Int.Bits.{and_zero_r}
@@ -52,3 +52,16 @@ range_next n = ap (range_with_len 0) (let e : n + 1 ≡ suc n = omega arith in e
 
 pub range_below : (n : ℕ) → All (λ k. k < n) (range_with_len 0 n)
 range_below n k d h = let l = length-range_with_len 0 n in let below : k < n = omega (arith, l, h) in rw (get_or-range_with_len 0 n k d below) (omega (arith, below))
+
+known_below : (window : List ℕ) (start bound : ℕ) (cases : List ByteCase) → start + length cases ≤ bound → IfSome (option_map case_no (position_from (is_met window) start cases)) (λ number. number.0 < bound)
+known_below window start bound [] h = tt
+known_below window start bound (c ∷ rest) h = by (is_met window c) (known_below window (start + 1) bound rest (omega (arith, h)))
+  where
+    by : (b : Bool) → IfSome (option_map case_no (position_from (is_met window) (start + 1) rest)) (λ number. number.0 < bound)
+        → IfSome (option_map case_no (cond b (Some start) (position_from (is_met window) (start + 1) rest))) (λ number. number.0 < bound)
+    by true r = omega (arith, h)
+    by false r = r
+
+-- the first case met is one of the cases
+pub first_known : (cases : List ByteCase) (window : List ℕ) → IfSome (first_met cases window) (λ number. number.0 < length cases)
+first_known cases window = known_below window 0 (length cases) cases (omega arith)
