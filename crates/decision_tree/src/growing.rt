@@ -363,9 +363,10 @@ fn numbers_below(alloc: Global, count: u32) -> Result<Vec<u32>, NoMemory>
     Ok(numbers)
 }
 
-/// The graph of the cases: for each window the walk ends at the first case that the window meets. On each path at most `limit` bits
-/// are tested, none of them twice, and a Check stands only where just `limit` bits were tested before. `NoMemory` where there is no
-/// memory for the nodes.
+/// The graph of at most 16,384 cases, with a limit of at most 24 bits: for each window the walk ends at the first case that the window
+/// meets. On each path at most `limit` bits are tested, none of them twice, and a Check stands only where just `limit` bits were tested
+/// before. Each Test asks for bits of the first case that is left there, and its links do not all lead to one node. `NoMemory` where there
+/// is no memory for the nodes.
 pub fn build_within(alloc: Global, cases: &[ByteCase], limit: u8) -> Result<Tree, NoMemory>
     requires count { length cases.now ≤ 16384 }
     requires limit { limit ≤ 24 }
