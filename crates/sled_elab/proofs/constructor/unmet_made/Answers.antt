@@ -14,7 +14,8 @@ unmet_plans-requires-clause-linear c =
 
 pub returns : goal.returns
 returns c =
-    let d = described_in c.args.description.now in
-    (c.in_ok-plans.plans,
-    subst (λ cs. ArePlansUnmet d.spec.tokens cs c.in_ok-plans.plans) (c.as_slice.ensures ∙ c.in_ok-constructors.ensures) c.in_ok-plans.ensures,
-    c.or_unmet_measures-unmet.ensures)
+    let d = described_in c.args.description.now in (
+      c.in_ok-plans.plans,
+      subst (λ cs. ArePlansUnmet d.spec.tokens cs c.in_ok-plans.plans) (c.as_slice.ensures ∙ c.in_ok-constructors.ensures) c.in_ok-plans.ensures,
+      c.or_unmet_measures-unmet.ensures,
+    )
