@@ -379,6 +379,8 @@ fn accepted_constructors(rt: HostRuntime) -> Result<(), Fail> {
         "c(v) { v@[0:3] = x, v@[4:7] = y, v@[8:31] = 0 } is x & y",
         "c(n) { n = L + 4 * x } is y = 1 ; L: x",
         "c(n) { n = x! } is x",
+        "c(n, m) { n = x, m = x! } is x",
+        "c() is b & q",
         "c(n, m) { n = x + y, m = x } is x & y",
         "c(n) { n = 1 + 2 + 3 + 4 + 5 + 6 + 7 + 8 + 9 + 10 + 11 + 12 + 13 + 14 + x } is x",
         "c(o1, o2, o3, o4, o5, o6, o7, o8, o9, o10, o11, o12, o13, o14, o15, o16) { o1 = x, o2 = x, o3 = x, o4 = x,
