@@ -3,6 +3,7 @@ pub mod Admitting
 pub mod Constructors
 pub mod Choosing
 pub mod Barrenness
+pub mod NoChoices
 pub mod Counting
 pub mod Measured
 pub mod Nodes

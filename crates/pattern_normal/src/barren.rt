@@ -1,15 +1,21 @@
 // Patterns without results.
-ghost use Rattle.std.specs.Prelude.{◌≡◌, true, map};
+ghost use Rattle.std.specs.Prelude.{◌≡◌, true, map, List};
 ghost use Rattle.token_bits.specs.Tokens.{AreTokens};
-ghost use Rattle.sled_model.specs.Results.{results};
-ghost use Rattle.pattern_normal.specs.Surroundings.{around, context_of};
+ghost use Rattle.sled_model.specs.Admitted.{applied};
+ghost use Rattle.sled_model.specs.Results.{results, operand_results, kind_results, choices_from};
+ghost use Rattle.sled_model.specs.declared.pattern.Argument.{Argument};
+ghost use Rattle.pattern_normal.specs.Surroundings.{around, inside, known_of, context_of};
 ghost use Rattle.pattern_normal.specs.Barren.{HasNoResults, SomeHasNone, AllHaveNone};
 
 use crate::context::BodyContext;
+use crate::made::makes;
 use crate::weights::{field_width, limit_weight};
-use sled_model::Pattern;
+use sled_model::{Constructor, OperandKind, Pattern, TypeId};
+use sqlite_items::at as item_at;
+use token_bits::Tokens;
 
-/// Whether it is seen of the pattern that it has no results anywhere, since some relation in it holds of no value of its field.
+/// Whether it is seen of the pattern that it has no results anywhere, since relations in it, or in what it names, hold of no value of
+/// their fields.
 #[cycle(barren)]
 fn is_barren(near: &BodyContext<'_>, pattern: &Pattern) -> bool
     requires { AreTokens near.now.tokens.now }
@@ -28,8 +34,11 @@ fn is_barren(near: &BodyContext<'_>, pattern: &Pattern) -> bool
         Pattern::Loose(inner) => is_barren(near, inner.get()),
         Pattern::Token(_) => false,
         Pattern::Bind(_) => false,
-        Pattern::Operand(_) => false,
-        Pattern::Apply { .. } => false,
+        Pattern::Operand(k) => is_barren_operand(near, *k),
+        Pattern::Apply {
+            constructor,
+            arguments: _arguments,
+        } => is_barren_number(near, constructor.0),
         Pattern::Empty => false,
     }
 }
@@ -60,4 +69,78 @@ fn all_barren(near: &BodyContext<'_>, parts: &[Pattern]) -> bool
         }
     }
     true
+}
+
+/// Whether it is seen of operand number k.
+#[cycle(barren)]
+fn is_barren_operand(near: &BodyContext<'_>, k: u32) -> bool
+    requires { AreTokens near.now.tokens.now }
+    ensures { result ≡ true → HasNoResults (operand_results (context_of (around near.now)) k) }
+{
+    match item_at(near.kinds, k as usize) {
+        Some(kind) => is_barren_kind(near, *kind),
+        None => true,
+    }
+}
+
+/// Whether it is seen of an operand of the kind.
+#[cycle(barren)]
+fn is_barren_kind(near: &BodyContext<'_>, kind: OperandKind) -> bool
+    requires { AreTokens near.now.tokens.now }
+    ensures { result ≡ true → HasNoResults (kind_results (known_of (around near.now)) kind) }
+{
+    match kind {
+        OperandKind::Typed(made) => is_barren_type(near, made),
+        OperandKind::Plain(_)
+        | OperandKind::Extended(_)
+        | OperandKind::Whole
+        | OperandKind::Sliced => true,
+    }
+}
+
+/// Whether it is seen of each constructor that makes the type.
+#[cycle(barren)]
+fn is_barren_type(near: &BodyContext<'_>, made: TypeId) -> bool
+    requires { AreTokens near.now.tokens.now }
+    ensures { result ≡ true → HasNoResults (choices_from 0 (known_of (around near.now)) made) }
+{
+    for (k, constructor) in near.constructors.iter().enumerate() {
+        if !makes(constructor, made) {
+            continue;
+        }
+        let before = &near.constructors[..k];
+        if !is_barren_body(near.tokens, before, constructor) {
+            return false;
+        }
+    }
+    true
+}
+
+/// Whether it is seen of the body of a constructor that is declared after these.
+#[cycle(barren)]
+fn is_barren_body(tokens: &Tokens, before: &[Constructor], constructor: &Constructor) -> bool
+    requires { AreTokens tokens.now }
+    ensures { result ≡ true → HasNoResults (results (context_of (inside tokens.now before.now constructor.now)) constructor.now.body) }
+{
+    let near = BodyContext {
+        tokens,
+        constructors: before,
+        kinds: constructor.operands.as_slice(),
+    };
+    is_barren(&near, &constructor.body)
+}
+
+/// Whether it is seen of an application of the constructor of this number.
+#[cycle(barren)]
+fn is_barren_number(near: &BodyContext<'_>, number: u32) -> bool
+    requires { AreTokens near.now.tokens.now }
+    ensures { result ≡ true → (arguments : List Argument) → HasNoResults (applied (known_of (around near.now)) number arguments) }
+{
+    let place = number as usize;
+    match item_at(near.constructors, place) {
+        None => true,
+        Some(constructor) => {
+            is_barren_body(near.tokens, &near.constructors[..place], constructor)
+        }
+    }
 }
