@@ -255,26 +255,24 @@ fn five(alloc: Global) -> Result<Argument, NoMemory> {
     Ok(Argument::Inner(Boxed::new(alloc, five)?))
 }
 
-/// Ten times the number of the constructor that was taken, and that of the first one inside.
-fn choice_number(entry: &RawEntry) -> u64 {
-    let RawEntry::Choice {
-        constructor,
-        inner,
-        ..
-    } = entry
-    else {
-        return 0;
-    };
-    match inner.entries.as_slice().first() {
-        Some(RawEntry::Choice { constructor: k, .. }) => {
-            10 * u64::from(constructor.0) + u64::from(k.0)
-        }
-        _ => 0,
+/// The number of the constructor that the first entry says was taken, or 9 where it says of none.
+fn taken(entries: &[RawEntry]) -> u32 {
+    match entries.first() {
+        Some(RawEntry::Choice { constructor, .. }) => constructor.0,
+        _ => 9,
     }
 }
 
-/// The choices of each result of `ins(argument)` on the window, by number.
-fn choices(alloc: Global, argument: Argument, window: &[u8]) -> Result<Vec<u64>, NoMemory> {
+/// The same inside the first entry.
+fn taken_inside(entries: &[RawEntry]) -> u32 {
+    match entries.first() {
+        Some(RawEntry::Choice { inner, .. }) => taken(inner.entries.as_slice()),
+        _ => 9,
+    }
+}
+
+/// The number of the constructor that each result of `ins(argument)` on the window takes for the operand.
+fn choices(alloc: Global, argument: Argument, window: &[u8]) -> Result<Vec<u32>, NoMemory> {
     let spec = chosen_spec(alloc)?;
     let pattern = applied(alloc, argument)?;
     let cases = cases_of(alloc, &spec, &pattern)?;
@@ -282,9 +280,7 @@ fn choices(alloc: Global, argument: Argument, window: &[u8]) -> Result<Vec<u64>,
     for case in cases.as_slice() {
         if case.bits.meets(window) {
             let raw = case.bind.read(alloc, &spec, window)?;
-            if let Some(entry) = raw.entries.as_slice().first() {
-                numbers.push(choice_number(entry))?;
-            }
+            numbers.push(taken_inside(raw.entries.as_slice()))?;
         }
     }
     Ok(numbers)
@@ -293,9 +289,9 @@ fn choices(alloc: Global, argument: Argument, window: &[u8]) -> Result<Vec<u64>,
 #[test]
 fn applications(rt: HostRuntime) -> Result<(), Fail> {
     let open = choices(rt.alloc(), Argument::Any, &[0x05])?;
-    assert_eq!(rt; open.as_slice(), [20, 21].as_slice());
+    assert_eq!(rt; open.as_slice(), [0, 1].as_slice());
     let five = five(rt.alloc())?;
     let only = choices(rt.alloc(), five, &[0x05])?;
-    assert_eq!(rt; only.as_slice(), [21].as_slice());
+    assert_eq!(rt; only.as_slice(), [1].as_slice());
     Ok(())
 }
