@@ -1,4 +1,10 @@
 pub mod SkeletonLaws
+pub mod Admitting
+pub mod Constructors
+pub mod Choosing
+pub mod Barrenness
+pub mod NoChoices
+pub mod Counting
 pub mod Measured
 pub mod Nodes
 pub mod Alone
@@ -12,4 +18,3 @@ pub mod Relations
 pub mod Patterns
 pub mod Told
 pub mod Worked
-pub mod Weightless

@@ -6,9 +6,9 @@ use Rattle.std.proofs.lemmas.List.Elements.{All-nil, All-cons, All-head, All-tai
 use Rattle.token_bits.specs.declared.tokens.Tokens.{Tokens}
 use Rattle.sled_model.specs.declared.raw.Match.{Match}
 use Rattle.sled_model.specs.declared.pattern.Pattern.{Pattern}
-use Rattle.sled_model.specs.Results.{results, alone, agrees}
+use Rattle.sled_model.specs.Results.{results, agrees}
 use Rattle.pattern_normal.specs.declared.alternative.Alternative.{Alternative}
-use Rattle.pattern_normal.specs.Alone.{lone_weight, lone_len}
+use Rattle.pattern_normal.specs.Surroundings.{Surroundings, context_of, open_weight, len_in}
 use Rattle.pattern_normal.specs.Alternatives.{shown, ended, both_ended, chain_ended, both_row, chain_row, IsBetween, AreBetween, ArePairs, AreFollowed, StandForPattern}
 use Rattle.pattern_normal.proofs.Shown.{shown_take, both_row-one, chain_row-one}
 
@@ -44,22 +44,22 @@ module _ (firsts : List Alternative) (i : ℕ) (a : Alternative) (l : i < length
     count = counted (length seconds) pairs new (length seconds) before.count count (omega arith);
   }
 
-  pub followed_more : (tokens : Tokens) (p : Pattern) (ys pairs new : List Alternative) → AreFollowed tokens p (take i firsts) pairs → StandForPattern tokens p a.bits.len ys
+  pub followed_more : (near : Surroundings) (p : Pattern) (ys pairs new : List Alternative) → AreFollowed near p (take i firsts) pairs → StandForPattern near p a.bits.len ys
       → ((tokens : Tokens) (w : List ℕ) → shown tokens w new ≡ shown tokens w pairs ++ chain_row tokens w a ys)
       → ((least most : ℕ) → AreBetween least most ys → AreBetween least most pairs → AreBetween least most new)
-      → length new ≤ length pairs + length ys → AreFollowed tokens p (take (i + 1) firsts) new
-  followed_more tokens p ys pairs new before stand says ends count = record {
+      → length new ≤ length pairs + length ys → AreFollowed near p (take (i + 1) firsts) new
+  followed_more near p ys pairs new before stand says ends count = record {
     shown = λ fits w bytes.
-        let q = λ (k : ℕ). results (alone tokens) p w k in let g = λ (x : Match). map (chain_ended x) (map (ended x.len) (q x.len)) in
-        let r = All-one_more (λ (c : Alternative). c.bits.len + lone_len tokens p ≤ 32) firsts i a l is fits in
-        says tokens w ∙ ap (λ z. z ++ chain_row tokens w a ys) (before.shown r.0 w bytes)
-        ∙ ap (λ z. flat_map g (shown tokens w (take i firsts)) ++ z) (sym (chain_row-one tokens w q a ys (λ reaches. stand.covers r.1 w bytes reaches)))
-        ∙ sym (shown_take tokens w g firsts i a l is);
+        let q = λ (k : ℕ). results (context_of near) p w k in let g = λ (x : Match). map (chain_ended x) (map (ended x.len) (q x.len)) in
+        let r = All-one_more (λ (c : Alternative). c.bits.len + len_in near p ≤ 32) firsts i a l is fits in
+        says near.tokens w ∙ ap (λ z. z ++ chain_row near.tokens w a ys) (before.shown r.0 w bytes)
+        ∙ ap (λ z. flat_map g (shown near.tokens w (take i firsts)) ++ z) (sym (chain_row-one near.tokens w q a ys (λ reaches. stand.covers r.1 w bytes reaches)))
+        ∙ sym (shown_take near.tokens w g firsts i a l is);
     ends = λ least most h.
         let r = All-one_more (IsBetween least most) firsts i a l is h in
         let from : least ≤ a.bits.len = r.1.0 in let to : a.bits.len ≤ most = r.1.1 in
-        ends least (most + lone_len tokens p)
-        (All-weaker (IsBetween a.bits.len (a.bits.len + lone_len tokens p)) (IsBetween least (most + lone_len tokens p)) (λ c b. (omega (arith, from, b.0), omega (arith, to, b.1))) ys stand.ends)
+        ends least (most + len_in near p)
+        (All-weaker (IsBetween a.bits.len (a.bits.len + len_in near p)) (IsBetween least (most + len_in near p)) (λ c b. (omega (arith, from, b.0), omega (arith, to, b.1))) ys stand.ends)
         (before.ends least most r.0);
-    count = counted (lone_weight tokens p) pairs new (length ys) before.count count stand.count;
+    count = counted (open_weight near p) pairs new (length ys) before.count count stand.count;
   }

@@ -10,7 +10,7 @@ use Rattle.pattern_normal.specs.declared.skeleton.Spot.TheVariants.{Choice}
 use Rattle.pattern_normal.specs.Skeletons.{read_spot, read_row, read_entries}
 
 module _ (tokens : Tokens) (window : List ℕ) where
-  read_row-row : {n : _} (spots : Row_of-Spot n) → read_row tokens window spots ≡ map (read_spot tokens window) (items-the_row-Spot _ spots)
+  pub read_row-row : {n : _} (spots : Row_of-Spot n) → read_row tokens window spots ≡ map (read_spot tokens window) (items-the_row-Spot _ spots)
   read_row-row end_of-Spot = refl
   read_row-row (more_of-Spot spot spots) = ap (λ es. read_spot tokens window spot ∷ es) (read_row-row spots)
 

@@ -8,10 +8,10 @@ use Rattle.token_bits.specs.declared.tokens.Tokens.{Tokens}
 use Rattle.sled_model.specs.declared.raw.Match.{Match}
 use Rattle.sled_model.specs.declared.pattern.Pattern.{Pattern}
 use Rattle.sled_model.specs.Measures.{product, greatest}
-use Rattle.sled_model.specs.Results.{Meaning, results, alone, agrees, both, either, chain, fold_meanings, label_meaning, label_match, loose_meaning, loose_match}
+use Rattle.sled_model.specs.Results.{Meaning, results, agrees, both, either, chain, fold_meanings, label_meaning, label_match, loose_meaning, loose_match}
 use Rattle.sled_model.proofs.Lists.{fold_take}
 use Rattle.pattern_normal.specs.declared.alternative.Alternative.{Alternative}
-use Rattle.pattern_normal.specs.Alone.{lone_weight, lone_len}
+use Rattle.pattern_normal.specs.Surroundings.{Surroundings, context_of, open_weight, len_in}
 use Rattle.pattern_normal.specs.Alternatives.{is_met, seen, shown, ended, both_ended, chain_ended, IsBetween, AreBetween, ArePairs, AreFollowed, StandFor, StandForPattern, label_alternative, loose_alternative}
 use Rattle.pattern_normal.proofs.Shown.{shown-append, product-ended, chain-ended}
 
@@ -61,18 +61,18 @@ module _ (tokens : Tokens) (at : ℕ) (m n : Meaning) (w v l k : ℕ) (fs ss : L
     count = rw (length-append fs ss) (omega (arith, f.count, s.count));
   }
 
-module _ (tokens : Tokens) (at : ℕ) (m : Meaning) (w l : ℕ) (fs : List Alternative) (f : StandFor tokens m w l at fs) where
-  pub stand_chain : (p : Pattern) (cs : List Alternative) → AreFollowed tokens p fs cs → StandFor tokens (chain m (results (alone tokens) p)) (w * lone_weight tokens p) (l + lone_len tokens p) at cs
+module _ (near : Surroundings) (at : ℕ) (m : Meaning) (w l : ℕ) (fs : List Alternative) (f : StandFor near.tokens m w l at fs) where
+  pub stand_chain : (p : Pattern) (cs : List Alternative) → AreFollowed near p fs cs → StandFor near.tokens (chain m (results (context_of near) p)) (w * open_weight near p) (l + len_in near p) at cs
   stand_chain p cs pairs =
-      let q = λ (window : List ℕ) (k : ℕ). results (alone tokens) p window k in
-      let e : (at + l) + lone_len tokens p ≡ at + (l + lone_len tokens p) = omega arith in
+      let q = λ (window : List ℕ) (k : ℕ). results (context_of near) p window k in
+      let e : (at + l) + len_in near p ≡ at + (l + len_in near p) = omega arith in
       record {
         covers = λ fits window bytes reaches.
-            pairs.shown (All-weaker (IsBetween at (at + l)) (λ (c : Alternative). c.bits.len + lone_len tokens p ≤ 32) (λ c b. omega (arith, fits, b.1)) fs f.ends) window bytes
+            pairs.shown (All-weaker (IsBetween at (at + l)) (λ (c : Alternative). c.bits.len + len_in near p ≤ 32) (λ c b. omega (arith, fits, b.1)) fs f.ends) window bytes
             ∙ ap (λ xs. flat_map (λ x. map (chain_ended x) (map (ended x.len) (q window x.len))) xs) (f.covers (omega (arith, fits)) window bytes reaches)
             ∙ chain-ended at (q window) (m window at);
         ends = subst (λ z. AreBetween at z cs) e (pairs.ends at (at + l) f.ends);
-        count = let h = mul-le (length fs) (lone_weight tokens p) w (lone_weight tokens p) f.count (omega arith) in omega (arith, h, pairs.count);
+        count = let h = mul-le (length fs) (open_weight near p) w (open_weight near p) f.count (omega arith) in omega (arith, h, pairs.count);
       }
 
 -- ---- labels and `...`
@@ -129,38 +129,38 @@ pub sum_folded : (n : ℕ) (ns : List ℕ) → sum (n ∷ ns) ≡ fold (λ a b. 
 sum_folded n ns = let e : 0 + n ≡ n = omega arith in ap (λ z. fold (λ a b. a + b) z ns) e
 
 -- after i more parts
-pub record StandsAfter (tokens : Tokens) (op : Meaning → Meaning → Meaning) (weigh measure : ℕ → ℕ → ℕ) (at : ℕ) (parts rest : List Pattern) (i : ℕ) (cs : List Alternative) : Type 0 where
+pub record StandsAfter (near : Surroundings) (op : Meaning → Meaning → Meaning) (weigh measure : ℕ → ℕ → ℕ) (at : ℕ) (parts rest : List Pattern) (i : ℕ) (cs : List Alternative) : Type 0 where
   pub first : Pattern
   pub are : parts ≡ first ∷ rest
-  pub stands : StandFor tokens (fold op (results (alone tokens) first) (map (results (alone tokens)) (take i rest)))
-      (fold weigh (lone_weight tokens first) (map (lone_weight tokens) (take i rest))) (fold measure (lone_len tokens first) (map (lone_len tokens) (take i rest))) at cs
+  pub stands : StandFor near.tokens (fold op (results (context_of near) first) (map (results (context_of near)) (take i rest)))
+      (fold weigh (open_weight near first) (map (open_weight near) (take i rest))) (fold measure (len_in near first) (map (len_in near) (take i rest))) at cs
 
-module _ (tokens : Tokens) (op : Meaning → Meaning → Meaning) (weigh measure : ℕ → ℕ → ℕ) (at : ℕ) where
-  pub start_after : (first : Pattern) (rest parts : List Pattern) (cs : List Alternative) → parts ≡ first ∷ rest → StandForPattern tokens first at cs → StandsAfter tokens op weigh measure at parts rest 0 cs
+module _ (near : Surroundings) (op : Meaning → Meaning → Meaning) (weigh measure : ℕ → ℕ → ℕ) (at : ℕ) where
+  pub start_after : (first : Pattern) (rest parts : List Pattern) (cs : List Alternative) → parts ≡ first ∷ rest → StandForPattern near first at cs → StandsAfter near op weigh measure at parts rest 0 cs
   start_after first rest parts cs e s = record { first = first; are = e; stands = s }
 
   -- one more part
-  pub next_after : (parts rest : List Pattern) (i : ℕ) (p : Pattern) (fs cs : List Alternative) → i < length rest → p ≡ get_or rest i p → (before : StandsAfter tokens op weigh measure at parts rest i fs)
-      → StandFor tokens (op (fold op (results (alone tokens) before.first) (map (results (alone tokens)) (take i rest))) (results (alone tokens) p))
-      (weigh (fold weigh (lone_weight tokens before.first) (map (lone_weight tokens) (take i rest))) (lone_weight tokens p))
-      (measure (fold measure (lone_len tokens before.first) (map (lone_len tokens) (take i rest))) (lone_len tokens p)) at cs
-      → StandsAfter tokens op weigh measure at parts rest (i + 1) cs
+  pub next_after : (parts rest : List Pattern) (i : ℕ) (p : Pattern) (fs cs : List Alternative) → i < length rest → p ≡ get_or rest i p → (before : StandsAfter near op weigh measure at parts rest i fs)
+      → StandFor near.tokens (op (fold op (results (context_of near) before.first) (map (results (context_of near)) (take i rest))) (results (context_of near) p))
+      (weigh (fold weigh (open_weight near before.first) (map (open_weight near) (take i rest))) (open_weight near p))
+      (measure (fold measure (len_in near before.first) (map (len_in near) (take i rest))) (len_in near p)) at cs
+      → StandsAfter near op weigh measure at parts rest (i + 1) cs
   next_after parts rest i p fs cs l is before s = record {
     first = before.first;
     are = before.are;
-    stands = stand_as tokens _ _ _ _ _ _ at cs
-        (λ window j. ap (λ z. z window j) (sym (fold_take op (results (alone tokens)) (results (alone tokens) before.first) rest i p l is)))
-        (sym (fold_take weigh (lone_weight tokens) (lone_weight tokens before.first) rest i p l is))
-        (sym (fold_take measure (lone_len tokens) (lone_len tokens before.first) rest i p l is)) s;
+    stands = stand_as near.tokens _ _ _ _ _ _ at cs
+        (λ window j. ap (λ z. z window j) (sym (fold_take op (results (context_of near)) (results (context_of near) before.first) rest i p l is)))
+        (sym (fold_take weigh (open_weight near) (open_weight near before.first) rest i p l is))
+        (sym (fold_take measure (len_in near) (len_in near before.first) rest i p l is)) s;
   }
 
   -- all of them
   pub all_after : (parts rest : List Pattern) (i : ℕ) (cs : List Alternative) → length rest ≤ i → (w l : List ℕ → ℕ) → ((n : ℕ) (ns : List ℕ) → w (n ∷ ns) ≡ fold weigh n ns) → ((n : ℕ) (ns : List ℕ) → l (n ∷ ns) ≡ fold measure n ns)
-      → StandsAfter tokens op weigh measure at parts rest i cs → StandFor tokens (fold_meanings op (map (results (alone tokens)) parts)) (w (map (lone_weight tokens) parts)) (l (map (lone_len tokens) parts)) at cs
+      → StandsAfter near op weigh measure at parts rest i cs → StandFor near.tokens (fold_meanings op (map (results (context_of near)) parts)) (w (map (open_weight near) parts)) (l (map (len_in near) parts)) at cs
   all_after parts rest i cs all w l f g s =
-      let m = results (alone tokens) in let e : take i rest ≡ rest = take_all i rest all in
-      stand_as tokens _ _ _ _ _ _ at cs
+      let m = results (context_of near) in let e : take i rest ≡ rest = take_all i rest all in
+      stand_as near.tokens _ _ _ _ _ _ at cs
       (λ window j. ap (λ z. fold op (m s.first) (map m z) window j) e ∙ ap (λ z. fold_meanings op (map m z) window j) (sym s.are))
-      (ap (λ z. fold weigh (lone_weight tokens s.first) (map (lone_weight tokens) z)) e ∙ sym (f (lone_weight tokens s.first) (map (lone_weight tokens) rest)) ∙ ap (λ z. w (map (lone_weight tokens) z)) (sym s.are))
-      (ap (λ z. fold measure (lone_len tokens s.first) (map (lone_len tokens) z)) e ∙ sym (g (lone_len tokens s.first) (map (lone_len tokens) rest)) ∙ ap (λ z. l (map (lone_len tokens) z)) (sym s.are))
+      (ap (λ z. fold weigh (open_weight near s.first) (map (open_weight near) z)) e ∙ sym (f (open_weight near s.first) (map (open_weight near) rest)) ∙ ap (λ z. w (map (open_weight near) z)) (sym s.are))
+      (ap (λ z. fold measure (len_in near s.first) (map (len_in near) z)) e ∙ sym (g (len_in near s.first) (map (len_in near) rest)) ∙ ap (λ z. l (map (len_in near) z)) (sym s.are))
       s.stands

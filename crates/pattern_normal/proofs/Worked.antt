@@ -1,13 +1,21 @@
 -- The pattern of the tests.
-use Rattle.std.proofs.Common.{◌≡◌, ℕ, ◌+◌, ◌≤◌, max, List, [], ◌∷◌, sym, subst, ◌∙◌, arith}
+use Rattle.std.proofs.Common.{◌≡◌, ℕ, ◌+◌, ◌≤◌, ◌^◌, max, Bool, true, false, cond, map, length, slice_get, Option, Some, None, ap, List, [], ◌∷◌, sym, subst, ◌∙◌, arith}
 use Rattle.std.proofs.lemmas.List.Elements.{All-nil, All-cons}
 use Rattle.token_bits.specs.declared.tokens.FieldId.{FieldId}
 use Rattle.token_bits.specs.Tokens.{token_len}
 use Rattle.sled_model.specs.declared.spec.Spec.{Spec}
 use Rattle.sled_model.specs.declared.pattern.Pattern.{Pattern}
-use Rattle.sled_model.specs.declared.pattern.Pattern.TheVariants.{Limit, Bind, Operand, Both, Either, Chain, Label}
+use Rattle.sled_model.specs.declared.pattern.Pattern.TheVariants.{Limit, Bind, Operand, Both, Either, Chain, Label, Apply}
 use Rattle.sled_model.specs.declared.pattern.Relation.TheVariants.{Equal, Below}
-use Rattle.sled_model.specs.Measures.{longest, each_from, measured, pattern_len}
+use Rattle.sled_model.specs.Measures.{Measured, longest, each_from, measured, kind_len, operand_len, application_len, pattern_len}
+use Rattle.sled_model.specs.Results.{makes}
+use Rattle.sled_model.specs.declared.constructor.Constructor.{Constructor}
+use Rattle.sled_model.specs.declared.constructor.OperandKind.{OperandKind}
+use Rattle.sled_model.specs.declared.constructor.OperandKind.TheVariants.{Plain, Extended, Typed, Whole, Sliced}
+use Rattle.sled_model.specs.declared.pattern.Argument.{Argument}
+use Rattle.token_bits.specs.declared.tokens.Tokens.{Tokens}
+use Rattle.std.specs.Option.{option_map_or}
+use Rattle.std.proofs.lemmas.List.{length-map}
 use Rattle.sled_model.specs.Leaves.{IsNoApplication, AllLeaves, NamesNoConstructor}
 use Rattle.sled_model.proofs.MeasureLaws as law
 
@@ -46,3 +54,40 @@ pub body_plain : (p : Pattern) → p ≡ Chain (Limit low Below 7 ∷ Operand 0 
 body_plain p e =
     let P = AllLeaves IsNoApplication in let rest = Operand 0 ∷ [] in
     subst P (sym e) (law.AllLeaves-to_Chain IsNoApplication (Limit low Below 7 ∷ rest) (All-cons P (Limit low Below 7) rest tt (All-cons P (Operand 0) [] tt (All-nil P))))
+
+-- ---- an instruction with an operand that two constructors make
+
+pub few_bodies : (cs : List Constructor) (p q r : Pattern) → map (λ (c : Constructor). c.body) cs ≡ p ∷ q ∷ r ∷ [] → length cs ≤ 2 ^ 32
+few_bodies cs p q r e = let n : length cs ≡ 3 = sym (length-map cs (λ (c : Constructor). c.body)) ∙ ap length e in omega (arith, n)
+
+small_if : (b : Bool) (n : ℕ) → n ≤ 32 → cond b n 0 ≤ 32
+small_if true n h = h
+small_if false n h = omega arith
+
+small_kind : (a b : Measured) → a.len ≤ 32 → b.len ≤ 32 → (o : Option OperandKind) → option_map_or (kind_len (a ∷ b ∷ [])) o 0 ≤ 32
+small_kind a b h g None = omega arith
+small_kind a b h g (Some (Plain f)) = omega arith
+small_kind a b h g (Some (Extended f)) = omega arith
+small_kind a b h g (Some (Typed t)) =
+    let x = small_if (makes t a.constructor.result) a.len h in let y = small_if (makes t b.constructor.result) b.len g in omega (arith, x, y)
+small_kind a b h g (Some Whole) = omega arith
+small_kind a b h g (Some Sliced) = omega arith
+
+pub fits_application : (spec : Spec) (p : Pattern) (arguments : List Argument) → token_len spec.tokens low ≡ 1
+    → map (λ (c : Constructor). c.body) spec.constructors ≡ Limit low Below 16 ∷ Limit low Equal 5 ∷ Operand 0 ∷ [] → p ≡ Apply (record { 0 = 2 }) arguments → pattern_len spec p ≤ 32
+fits_application spec p arguments l bodies e = subst (λ z. pattern_len spec z ≤ 32) (sym e) (from spec.constructors bodies)
+  where
+    T : Tokens
+    T = spec.tokens
+
+    from : (cs : List Constructor) → map (λ (c : Constructor). c.body) cs ≡ Limit low Below 16 ∷ Limit low Equal 5 ∷ Operand 0 ∷ [] → application_len (each_from (measured T) [] cs) 2 ≤ 32
+    from [] h = cc
+    from (a ∷ []) h = cc
+    from (a ∷ b ∷ []) h = cc
+    from (a ∷ b ∷ c ∷ []) h =
+        let one : a.body ≡ Limit low Below 16 = cc in let two : b.body ≡ Limit low Equal 5 = cc in let three : c.body ≡ Operand 0 = cc in
+        let x = measured T [] a in let y = measured T (x ∷ []) b in
+        let x_small : x.len ≤ 32 = subst (λ z. longest T [] (operand_len [] a.operands) z ≤ 32) (sym one) (omega (arith, l)) in
+        let y_small : y.len ≤ 32 = subst (λ z. longest T (x ∷ []) (operand_len (x ∷ []) b.operands) z ≤ 32) (sym two) (omega (arith, l)) in
+        subst (λ z. longest T (x ∷ y ∷ []) (operand_len (x ∷ y ∷ []) c.operands) z ≤ 32) (sym three) (small_kind x y x_small y_small (slice_get c.operands 0))
+    from (a ∷ b ∷ c ∷ d ∷ cs) h = cc

@@ -10,14 +10,17 @@ use Rattle.sled_model.specs.Measures.{limit_weight}
 use Rattle.relation_cases.specs.Cases.{field_is}
 use Rattle.sled_model.specs.declared.raw.Match.{Match}
 use Rattle.sled_model.specs.declared.pattern.Pattern.{Pattern}
-use Rattle.sled_model.specs.Results.{Meaning, results, alone, agrees, has_relation, one_match}
+use Rattle.sled_model.specs.declared.pattern.Argument.{Argument}
+use Rattle.sled_model.specs.Results.{Meaning, results, agrees, has_relation, one_match}
+use Rattle.sled_model.specs.Admitted.{list_admits}
+use Rattle.sled_model.specs.declared.constructor.Constructor.{Constructor}
 use Rattle.bit_cases.specs.Bits.{meets}
 use Rattle.bit_cases.specs.declared.byte_case.ByteCase.{ByteCase}
 use Rattle.pattern_normal.specs.declared.skeleton.Spot.{Spot}
-use Rattle.pattern_normal.specs.declared.skeleton.Spot.TheVariants.{Mark}
+use Rattle.pattern_normal.specs.declared.skeleton.Spot.TheVariants.{Mark, Choice}
 use Rattle.pattern_normal.specs.declared.alternative.Alternative.{Alternative}
-use Rattle.pattern_normal.specs.Alone.{lone_weight, lone_len}
-use Rattle.pattern_normal.specs.Skeletons.{read_spot}
+use Rattle.pattern_normal.specs.Surroundings.{Surroundings, known_of, context_of, open_weight, len_in}
+use Rattle.pattern_normal.specs.Skeletons.{read_spot, read_entries}
 
 abbrev pub IsBytes : List ℕ → Type 0
 IsBytes bytes = All (λ byte. byte < 256) bytes
@@ -71,8 +74,8 @@ pub record StandFor (tokens : Tokens) (m : Meaning) (weight len at : ℕ) (alter
   pub ends : AreBetween at (at + len) alternatives
   pub count : length alternatives ≤ weight
 
-abbrev pub StandForPattern : Tokens → Pattern → ℕ → List Alternative → Type 0
-StandForPattern tokens p at alternatives = StandFor tokens (results (alone tokens) p) (lone_weight tokens p) (lone_len tokens p) at alternatives
+abbrev pub StandForPattern : Surroundings → Pattern → ℕ → List Alternative → Type 0
+StandForPattern s p at alternatives = StandFor s.tokens (results (context_of s) p) (open_weight s p) (len_in s p) at alternatives
 
 -- each of the firsts with each of the seconds that agrees
 pub record ArePairs (firsts seconds pairs : List Alternative) : Type 0 where
@@ -82,11 +85,11 @@ pub record ArePairs (firsts seconds pairs : List Alternative) : Type 0 where
   pub count : length pairs ≤ length firsts * length seconds
 
 -- each of the firsts with each alternative of a pattern where it ends
-pub record AreFollowed (tokens : Tokens) (p : Pattern) (firsts pairs : List Alternative) : Type 0 where
-  pub shown : All (λ a. a.bits.len + lone_len tokens p ≤ 32) firsts → (window : List ℕ) → IsBytes window
-      → shown tokens window pairs ≡ flat_map (λ x. map (chain_ended x) (map (ended x.len) (results (alone tokens) p window x.len))) (shown tokens window firsts)
-  pub ends : (least most : ℕ) → AreBetween least most firsts → AreBetween least (most + lone_len tokens p) pairs
-  pub count : length pairs ≤ length firsts * lone_weight tokens p
+pub record AreFollowed (s : Surroundings) (p : Pattern) (firsts pairs : List Alternative) : Type 0 where
+  pub shown : All (λ a. a.bits.len + len_in s p ≤ 32) firsts → (window : List ℕ) → IsBytes window
+      → shown s.tokens window pairs ≡ flat_map (λ x. map (chain_ended x) (map (ended x.len) (results (context_of s) p window x.len))) (shown s.tokens window firsts)
+  pub ends : (least most : ℕ) → AreBetween least most firsts → AreBetween least (most + len_in s p) pairs
+  pub count : length pairs ≤ length firsts * open_weight s p
 
 -- the condition, with nothing bound
 abbrev pub plain_alternative : ByteCase → Alternative
@@ -98,6 +101,15 @@ loose_alternative a = record { bits = a.bits; loose = true; spots = a.spots }
 -- the alternative, with the label at an offset in front
 abbrev pub label_alternative : ℕ → ℕ → Alternative → Alternative
 label_alternative label at a = record { bits = a.bits; loose = a.loose; spots = Mark label at ∷ a.spots }
+
+-- the alternative, as the choice of constructor number k by an application with these arguments
+abbrev pub choice_alternative : ℕ → List Argument → Alternative → Alternative
+choice_alternative k arguments a =
+    record { bits = a.bits; loose = a.loose; spots = Choice (record { 0 = k }) (record { entries = a.spots }) arguments ∷ [] }
+
+-- the arguments of the constructor admit what the alternative of its body binds, which is no matter of the values
+abbrev pub is_admitted : Surroundings → Constructor → List Argument → Alternative → Bool
+is_admitted s c arguments a = list_admits (known_of s) c (read_entries s.tokens [] a.spots) 0 arguments
 
 -- the alternatives of a relation of the field in a token of the class
 pub record AreLimitsOf (class : Class) (field : Field) (relation : Relation) (limit at : ℕ) (alternatives : List Alternative) : Type 0 where

@@ -1,5 +1,5 @@
 -- What a skeleton binds in a window.
-use Rattle.std.specs.Prelude.{ℕ, List, [], ◌∷◌, map, unwrap_or}
+use Rattle.std.specs.Prelude.{ℕ, Bool, true, false, List, [], ◌∷◌, map, unwrap_or}
 use Rattle.token_bits.specs.declared.tokens.Tokens.{Tokens}
 use Rattle.sled_model.specs.declared.raw.Raw.{Raw}
 use Rattle.sled_model.specs.declared.raw.RawEntry.{RawEntry}
@@ -25,3 +25,8 @@ read_entries tokens window spots = map (read_spot tokens window) spots
 
 abbrev pub read_skeleton : Tokens → List ℕ → Skeleton → Raw
 read_skeleton tokens window skeleton = record { entries = read_entries tokens window skeleton.entries }
+
+-- whether a spot is a choice
+abbrev pub is_choice_spot : Spot → Bool
+is_choice_spot (Choice' k s inner arguments) = true
+is_choice_spot _ = false

@@ -3,12 +3,13 @@ ghost use Rattle.std.specs.Prelude.{◌≡◌, ◌+◌, ◌*◌, ◌<◌, ◌≤
 ghost use Rattle.std.specs.Option.{option_to_list, option_map_or};
 ghost use Rattle.token_bits.specs.declared.tokens.Tokens.{Tokens};
 ghost use Rattle.sled_model.specs.Results.{agrees as agrees_with};
-ghost use Rattle.pattern_normal.specs.Alternatives.{seen, shown, both_row, chain_row, AreBetween, IsBetween, ArePairs, loose_alternative, label_alternative, plain_alternative};
+ghost use Rattle.pattern_normal.specs.Alternatives.{seen, shown, both_row, chain_row, AreBetween, IsBetween, ArePairs, loose_alternative, label_alternative, plain_alternative, choice_alternative};
 
-use crate::Spot;
 use crate::skeleton::copy_spots;
+use crate::{Skeleton, Spot};
 use bit_cases::ByteCase;
 use sled_base::NoMemory;
+use sled_model::{Argument, ConstructorId, copy_arguments};
 use sqlite_items::Items;
 use std::alloc::Global;
 
@@ -196,4 +197,44 @@ pub(crate) fn plain_alternatives(
         })?;
     }
     Ok(plain)
+}
+
+/// The alternative, as the choice of the constructor of this number by an application with these arguments.
+pub(crate) fn as_choice(
+    alloc: Global,
+    k: u32,
+    arguments: &[Argument],
+    alternative: &Alternative,
+) -> Result<Alternative, NoMemory>
+    ensures { IfOk result (λ a. a ≡ choice_alternative k arguments.now alternative.now) }
+{
+    let mut spots = Items::new(alloc);
+    spots.push(Spot::Choice {
+        constructor: ConstructorId(k),
+        inner: Skeleton {
+            entries: copy_spots(alloc, alternative.spots.as_slice())?,
+        },
+        arguments: copy_arguments(alloc, arguments)?,
+    })?;
+    Ok(Alternative {
+        bits: alternative.bits,
+        loose: alternative.loose,
+        spots,
+    })
+}
+
+/// The alternatives, each as the choice of the constructor of this number by an application with these arguments.
+pub(crate) fn chosen(
+    alloc: Global,
+    k: u32,
+    arguments: &[Argument],
+    alternatives: &[Alternative],
+) -> Result<Items<Alternative>, NoMemory>
+    ensures { IfOk result (λ choices. choices ≡ map (choice_alternative k arguments.now) alternatives.now) }
+{
+    let mut choices = Items::new(alloc);
+    for alternative in alternatives {
+        choices.push(as_choice(alloc, k, arguments, alternative)?)?;
+    }
+    Ok(choices)
 }

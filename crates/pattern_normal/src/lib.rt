@@ -1,9 +1,12 @@
 //! Patterns as lists of cases: each a condition on the bits of a window, and what a window that meets it binds.
 #![tactic(auto)]
 
+mod admitted;
 mod alternative;
+mod barren;
 mod caps;
 mod case;
+mod context;
 mod expand;
 mod leaves;
 mod lengths;

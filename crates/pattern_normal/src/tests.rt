@@ -1,5 +1,5 @@
 // Cases of a worked pattern, and measures of patterns and of a constructor.
-ghost use Rattle.std.specs.Prelude.{◌≡◌, [], ◌∷◌, IfOk};
+ghost use Rattle.std.specs.Prelude.{◌≡◌, [], ◌∷◌, map, IfOk};
 ghost use Rattle.token_bits.specs.Tokens.{AreTokens, token_len};
 ghost use Rattle.sled_model.specs.declared.pattern.Relation.TheVariants.{Equal, Below};
 ghost use Rattle.sled_model.specs.Leaves.{IsNoApplication, AllLeaves};
@@ -8,7 +8,8 @@ ghost use Rattle.pattern_normal.specs.Operands.{ApplyNothing};
 use crate::{body_size, body_weight, cases_of, size, size_over, weight, weight_over};
 use sled_base::NoMemory;
 use sled_model::{
-    Constructor, ConstructorNames, KindList, OperandKind, Pattern, RawEntry, Relation, Spec, TypeId,
+    Argument, Constructor, ConstructorId, ConstructorNames, KindList, OperandKind, Pattern,
+    RawEntry, Relation, Spec, TypeId,
 };
 use sqlite_items::{Boxed, Items};
 use std::alloc::Global;
@@ -187,5 +188,110 @@ fn operands(rt: HostRuntime) -> Result<(), Fail> {
     assert_eq!(rt; body_size(&spec, &instruction), 3);
     assert_eq!(rt; weight_over(&spec.tokens, &[5], &instruction.body), 15);
     assert_eq!(rt; size_over(&[5], &instruction.body), 5);
+    Ok(())
+}
+
+/// A field `x` of all bits of a class of 8 bits.
+fn byte_spec(alloc: Global) -> Result<Spec, NoMemory>
+    ensures sound { IfOk result (λ spec. AreTokens spec.tokens) }
+    ensures byte { IfOk result (λ spec. token_len spec.tokens (record { 0 = 0 }) ≡ 1) }
+    ensures nothing { IfOk result (λ spec. spec.constructors ≡ []) }
+{
+    let mut tokens = Tokens::new(alloc);
+    let class = tokens.add_class(Class {
+        width: 8,
+        order: Order::Little,
+    })?;
+    tokens.add_field(Field {
+        class,
+        lo: 0,
+        hi: 7,
+    })?;
+    Ok(Spec {
+        tokens,
+        class_names: Items::new(alloc),
+        field_names: Items::new(alloc),
+        type_names: Items::new(alloc),
+        constructors: Items::new(alloc),
+        constructor_names: ConstructorNames::new(alloc),
+    })
+}
+
+/// The type 0 is made by `low`, which is `x < 16`, and by `five`, which is `x = 5`. `ins(t)` is `t`.
+fn chosen_spec(alloc: Global) -> Result<Spec, NoMemory>
+    ensures sound { IfOk result (λ spec. AreTokens spec.tokens) }
+    ensures byte { IfOk result (λ spec. token_len spec.tokens (record { 0 = 0 }) ≡ 1) }
+    ensures bodies { IfOk result (λ spec. map (λ c. c.body) spec.constructors ≡ Pattern.Limit (record { 0 = 0 }) Below 16 ∷ Pattern.Limit (record { 0 = 0 }) Equal 5 ∷ Pattern.Operand 0 ∷ []) }
+{
+    let mut spec = byte_spec(alloc)?;
+    let made = Some(TypeId(0));
+    let mut operands = Items::new(alloc);
+    operands.push(OperandKind::Typed(TypeId(0)))?;
+    spec.constructors.push(constructor(alloc, made, Items::new(alloc), low(Relation::Below, 16)))?;
+    spec.constructors.push(constructor(alloc, made, Items::new(alloc), low(Relation::Equal, 5)))?;
+    spec.constructors
+        .push(constructor(alloc, None, operands, Pattern::Operand(0)))?;
+    Ok(spec)
+}
+
+/// `ins(argument)`
+fn applied(alloc: Global, argument: Argument) -> Result<Pattern, NoMemory>
+    ensures { IfOk result (λ p. p ≡ Pattern.Apply (record { 0 = 2 }) (argument ∷ [])) }
+{
+    let mut arguments = Items::new(alloc);
+    arguments.push(argument)?;
+    Ok(Pattern::Apply {
+        constructor: ConstructorId(2),
+        arguments,
+    })
+}
+
+/// `five()`
+fn five(alloc: Global) -> Result<Argument, NoMemory> {
+    let five = Pattern::Apply {
+        constructor: ConstructorId(1),
+        arguments: Items::new(alloc),
+    };
+    Ok(Argument::Inner(Boxed::new(alloc, five)?))
+}
+
+/// The number of the constructor that the first entry says was taken, or 9 where it says of none.
+fn taken(entries: &[RawEntry]) -> u32 {
+    match entries.first() {
+        Some(RawEntry::Choice { constructor, .. }) => constructor.0,
+        _ => 9,
+    }
+}
+
+/// The same inside the first entry.
+fn taken_inside(entries: &[RawEntry]) -> u32 {
+    match entries.first() {
+        Some(RawEntry::Choice { inner, .. }) => taken(inner.entries.as_slice()),
+        _ => 9,
+    }
+}
+
+/// The number of the constructor that each result of `ins(argument)` on the window takes for the operand.
+fn choices(alloc: Global, argument: Argument, window: &[u8]) -> Result<Vec<u32>, NoMemory> {
+    let spec = chosen_spec(alloc)?;
+    let pattern = applied(alloc, argument)?;
+    let cases = cases_of(alloc, &spec, &pattern)?;
+    let mut numbers = Vec::new(alloc);
+    for case in cases.as_slice() {
+        if case.bits.meets(window) {
+            let raw = case.bind.read(alloc, &spec, window)?;
+            numbers.push(taken_inside(raw.entries.as_slice()))?;
+        }
+    }
+    Ok(numbers)
+}
+
+#[test]
+fn applications(rt: HostRuntime) -> Result<(), Fail> {
+    let open = choices(rt.alloc(), Argument::Any, &[0x05])?;
+    assert_eq!(rt; open.as_slice(), [0, 1].as_slice());
+    let five = five(rt.alloc())?;
+    let only = choices(rt.alloc(), five, &[0x05])?;
+    assert_eq!(rt; only.as_slice(), [1].as_slice());
     Ok(())
 }

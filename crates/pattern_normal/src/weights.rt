@@ -3,21 +3,12 @@ ghost use Rattle.std.specs.Prelude.{◌≡◌, ◌<◌, ◌≤◌, ◌*◌, ◌+
 ghost use Rattle.token_bits.specs.Tokens.{AreTokens};
 ghost use Rattle.sled_model.specs.Measures.{capped, each_from, kind_weight as kind_weight_of, limit_weight as limit_weight_of, operand_weight as kept_weight, product, type_weight as type_weight_of, weight as weight_of, weighed, width_at};
 ghost use Rattle.sled_model.specs.Leaves.{IsNoApplication, AllLeaves};
-ghost use Rattle.pattern_normal.specs.Alone.{lone_weight as lone_weight_of};
 ghost use Rattle.pattern_normal.specs.Operands.{ApplyNothing, operand_weights};
 
 use crate::caps::{CAP, capped_product, capped_sum};
 use crate::made::makes;
 use sled_model::{Constructor, OperandKind, Pattern, Relation, TypeId};
 use token_bits::{FieldId, Tokens};
-
-/// The product of the patterns' weights, where no constructor is known.
-pub(crate) fn lone_product(tokens: &Tokens, parts: &[Pattern]) -> u64
-    requires { AreTokens tokens.now }
-    ensures { result ≡ capped (product (map (lone_weight_of tokens.now) parts.now)) }
-{
-    weight_product(tokens, &[], &[], &[], parts)
-}
 
 /// The weight of a pattern. Operand k has the weight `given[k]`, or past these that of the kind `kinds[k]`, whose type the
 /// constructors `before` make. An application has none.
@@ -165,7 +156,7 @@ pub(crate) fn constructor_weight(
     )
 }
 
-fn limit_weight(width: u8, relation: Relation, limit: u32) -> u64
+pub(crate) fn limit_weight(width: u8, relation: Relation, limit: u32) -> u64
     requires { width ≤ 32 }
     ensures value { result ≡ limit_weight_of width relation limit }
     ensures small { result ≤ 64 }
@@ -183,7 +174,7 @@ fn limit_weight(width: u8, relation: Relation, limit: u32) -> u64
 }
 
 /// How many bits the field has, or 0 where there is no such field.
-fn field_width(tokens: &Tokens, field: FieldId) -> u8
+pub(crate) fn field_width(tokens: &Tokens, field: FieldId) -> u8
     requires { AreTokens tokens.now }
     ensures value { result ≡ width_at tokens.now field }
     ensures small { result ≤ 32 }
