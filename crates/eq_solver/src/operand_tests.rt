@@ -2,7 +2,7 @@
 ghost use Rattle.std.specs.Prelude.{◌≡◌, ◌^◌, [], ◌∷◌, pos, ◌-ℤ◌, None, IfOk};
 ghost use Rattle.sled_model.specs.Equations.{IsBetween};
 
-use crate::tests::{constructor, equation, slices, spec};
+use crate::tests::{constructor, equation, slices, spec, sums};
 use crate::{NoSolution, PlanFault, plan_of};
 use sled_base::NoMemory;
 use sled_model::{Atom, Constructor, OperandKind, Pattern, Term};
@@ -27,6 +27,45 @@ fn there_and_back(alloc: Global, operand: i64) -> Result<Result<i64, NoSolution>
         }
         Err(fault) => Ok(Err(fault)),
     }
+}
+
+/// The operands that the fields for these operands give, where two fields are hidden.
+fn sums_there_and_back(
+    alloc: Global,
+    a: i64,
+    b: i64,
+    c: i64,
+) -> Result<Result<(i64, i64, i64), NoSolution>, PlanFault>
+    requires a { IsBetween (pos 0 -ℤ pos (2 ^ 34)) (pos (2 ^ 34)) a }
+    requires b { IsBetween (pos 0 -ℤ pos (2 ^ 34)) (pos (2 ^ 34)) b }
+    requires c { IsBetween (pos 0 -ℤ pos (2 ^ 34)) (pos (2 ^ 34)) c }
+{
+    let spec = spec(alloc)?;
+    let constructor = sums(alloc)?;
+    let plan = plan_of(alloc, &spec, &constructor)?;
+    let mut cells = [0; 2];
+    let mut back = [0; 3];
+    match plan.fields(&[a, b, c], &[], &mut cells) {
+        Ok(()) => {
+            plan.operands(&cells, &[], &mut back);
+            Ok(Ok((back[0], back[1], back[2])))
+        }
+        Err(fault) => Ok(Err(fault)),
+    }
+}
+
+#[test]
+fn sums_from_their_fields(rt: HostRuntime) -> Result<(), Fail> {
+    let alloc = rt.alloc();
+    assert_eq!(rt;
+        sums_there_and_back(alloc, 3 * 65536 + 5, 3, 8).ok(),
+        Some(Ok((3 * 65536 + 5, 3, 8)))
+    );
+    assert_eq!(rt;
+        sums_there_and_back(alloc, 5 - 65536, -1, 20).ok(),
+        Some(Ok((5 - 65536, -1, 20)))
+    );
+    Ok(())
 }
 
 #[test]

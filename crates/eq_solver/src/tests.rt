@@ -175,7 +175,7 @@ fn two_fields(alloc: Global) -> Result<Pattern, NoMemory>
 }
 
 /// `a = f0 + 65536 * f1!, b = f1!, c = f0 + f1`, in which the second equation is solved first.
-fn sums(alloc: Global) -> Result<Constructor, NoMemory>
+pub fn sums(alloc: Global) -> Result<Constructor, NoMemory>
     ensures { IfOk result (λ c. c ≡ record {
       name = [];
       result = None;
