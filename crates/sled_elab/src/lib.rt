@@ -1,7 +1,7 @@
 //! What declarations and arms stand for: the model of a description and of a statement, or the first that lacks something.
 //!
-//! Built so far are classes, patterns and groups, and arms without applications. Constructors that meet what is asked of them before their
-//! equations are solved, applications and `match all` are refused as not built, with the number of their declaration or arm.
+//! All declarations are read. Of arms those without applications are: an application and `match all` are refused as not built, with the
+//! number of the arm.
 #![tactic(auto)]
 
 mod action;
