@@ -7,7 +7,7 @@ use std::alloc::{AllocError, AllocFailed};
 pub enum Lack {
     /// It does not meet the condition of this number.
     Condition(u8),
-    /// Its form is one of the language that this program does not read yet.
+    /// It is an arm of a form of the language that this program does not read yet.
     NotBuilt,
 }
 

@@ -1,4 +1,4 @@
-// Whole descriptions of machines: their constructors, which come last, are not built.
+// Whole descriptions of machines.
 
 pub const SPARC: &str = "fields of word (32)
   op 30:31 disp30 0:29 rd 25:29 op2 22:24 imm22 0:21 disp22 0:21
