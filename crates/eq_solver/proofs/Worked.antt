@@ -56,7 +56,7 @@ row_labels-row : {n : _} (ps : Row_of-Pattern n) → row_labels ps ≡ flat_map 
 row_labels-row end_of-Pattern = refl
 row_labels-row (more_of-Pattern p ps) = ap (λ ls. labels_in p ++ ls) (row_labels-row ps)
 
-labels_both : labels_in both_fields ≡ []
+pub labels_both : labels_in both_fields ≡ []
 labels_both = row_labels-row (hidden-the_row-Pattern-1 (Bind low ∷ Bind high ∷ [])) ∙ ap (flat_map labels_in) (items_hidden-the_row-Pattern-1 (Bind low ∷ Bind high ∷ []))
 
 -- ---- terms

@@ -16,7 +16,7 @@ use Rattle.eq_solver.specs.Steps.{AreFields}
 use Rattle.eq_solver.specs.Cells.{IsPlanOf}
 use Rattle.eq_solver.specs.Operands.{IsPlanWith, AreCellValues}
 use Rattle.eq_solver.proofs.Linears.{sound_of}
-use Rattle.eq_solver.proofs.Worked.{low, made, term, equation, term_of, minus_of, two_terms, slices_made, slices_size, sums_made, sums_size}
+use Rattle.eq_solver.proofs.Worked.{low, made, term, equation, term_of, minus_of, two_terms, slices_made, slices_size, sums_made, sums_size, labels_both}
 
 pub slices_with : (tokens : Tokens) (c : Constructor) (plan : Plan) → c ≡ slices_made → IsPlanOf tokens c plan → IsPlanWith plan 0 1
 slices_with tokens c plan e is = (tokens, c, is, ap (λ (d : Constructor). length (labels_in d.body)) e, ap (λ (d : Constructor). length d.operands) e)
@@ -27,7 +27,7 @@ slices_cells tokens c plan out e is l f =
     record { one_each = l ∙ slices_size tokens c plan e is ∙ sym sizes; range = λ k m. f.each k (subst (λ n. k < n) sizes m) }
 
 pub sums_with : (tokens : Tokens) (c : Constructor) (plan : Plan) → c ≡ sums_made → IsPlanOf tokens c plan → IsPlanWith plan 0 3
-sums_with tokens c plan e is = (tokens, c, is, ap (λ (d : Constructor). length (labels_in d.body)) e, ap (λ (d : Constructor). length d.operands) e)
+sums_with tokens c plan e is = (tokens, c, is, ap (λ (d : Constructor). length (labels_in d.body)) e ∙ ap length labels_both, ap (λ (d : Constructor). length d.operands) e)
 
 pub sums_cells : (tokens : Tokens) (c : Constructor) (plan : Plan) (out : List ℤ) → c ≡ sums_made → IsPlanOf tokens c plan → length out ≡ 2 → AreFields (at plan.halves) (length plan.sources) (at out) → AreCellValues plan.halves out
 sums_cells tokens c plan out e is l f =
