@@ -48,6 +48,26 @@ fn a_source_gives_its_bytes_and_then_the_end(rt: HostRuntime) -> Result<(), Fail
 }
 
 #[test]
+fn a_source_gives_its_bytes_in_pieces(rt: HostRuntime) -> Result<(), Fail> {
+    let mut source = MemSource::in_pieces(rt.alloc(), b"abcdefgh", &[2, 0, 9, 9], &[3])?;
+    let mut buf = [b'.'; 3];
+    // How many bytes, and what the buffer then holds.
+    let rows: [(Option<usize>, &[u8]); 6] = [
+        (Some(2), b"ab."),
+        (Some(1), b"cb."),
+        (None, b"cb."),
+        (Some(3), b"def"),
+        (Some(2), b"ghf"),
+        (Some(0), b"ghf"),
+    ];
+    for (read, bytes) in rows {
+        assert_eq!(rt; source.read(&mut buf).ok(), read);
+        assert_eq!(rt; buf.as_slice(), bytes);
+    }
+    Ok(())
+}
+
+#[test]
 fn a_sink_takes_what_it_has_room_for(rt: HostRuntime) -> Result<(), Fail> {
     let mut sink = MemSink::new(rt.alloc(), 5, &[2])?;
     // A piece, how much of it was taken, what the sink then holds, and the count.

@@ -13,4 +13,4 @@ returns-clause-bytes c =
     let left : drop at bytes ≡ c.args.self.now.left = ap (λ (s : Reading). s.left) c.self.view_is in
     let front : take (length c.deref-2.result.now - at) (drop at c.deref-2.result.now) ≡ c.args.self.now.left =
     rw (held, take_all (length bytes - at) (drop at bytes) (omega (arith, length-drop at bytes))) left in
-    moved_on bytes _ _ c.args.buf.now c.copy_front-count.new.buf at c.copy_front-count.result left front copied.count (search rules) copied.bytes
+    moved_on bytes _ _ c.copy_front-count.new.buf at c.room_for-room.result c.copy_front-count.result left front copied.count (λ some. c.room_for-room.ensures.some (omega arith)) copied.bytes
