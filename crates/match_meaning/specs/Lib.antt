@@ -1,0 +1,4 @@
+pub mod Readable
+pub mod Names
+pub mod Taken
+pub mod Matchable
