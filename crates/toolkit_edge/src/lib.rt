@@ -3,7 +3,8 @@
 //! `Folder` is the files of the current folder, `Reading` any reader of std and `Writing` any writer. Each is a few lines over one call of
 //! std, and counts its faults as the toolkit asks: that a fault comes only where the count rose is proved. What a file, a terminal or a
 //! pipe holds, gives or takes is not claimed: std tells no contents of these, so these objects tell none. Over a reader or a writer in
-//! memory, whose bytes std tells, they tell the same bytes.
+//! memory, whose bytes std tells, they tell the same bytes. std's `BufReader` and `BufWriter` are a reader and a writer too: where one
+//! stands between, `Writing::flush` hands on what it holds.
 //!
 //! A caller:
 //!

@@ -2,7 +2,7 @@
 use crate::{Folder, Reading, Writing};
 use sled_base::{Shelf, ShelfFault, Sink, Source};
 use std::io;
-use std::io::{ErrorKind, Read};
+use std::io::{BufWriter, ErrorKind, Read};
 use std::test::Fail;
 
 // A reader over bytes whose second read fails.
@@ -71,6 +71,19 @@ fn a_folder_loads_a_front_or_counts_the_name(rt: HostRuntime) -> Result<(), Fail
             assert_eq!(rt; found.as_slice(), bytes);
         }
         assert_eq!(rt; shelf.faults(name), count);
+    }
+    Ok(())
+}
+
+#[test]
+fn a_buffer_is_handed_on_by_a_flush(rt: HostRuntime) -> Result<(), Fail> {
+    let mut held = [b'.'; 3];
+    let mut sink = Writing::new(BufWriter::with_capacity(rt.alloc(), 8, held.as_mut_slice())?);
+    // A piece, and whether a flush behind it hands all on: the writer behind has room for three bytes.
+    for (piece, taken, flushed, count) in [(b"ab", Some(2), true, 0), (b"cd", Some(2), false, 1)] {
+        assert_eq!(rt; sink.write(piece).ok(), taken);
+        assert_eq!(rt; sink.flush().is_ok(), flushed);
+        assert_eq!(rt; sink.faults(), count);
     }
     Ok(())
 }

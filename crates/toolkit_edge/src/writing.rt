@@ -1,6 +1,6 @@
 // A writer as a sink.
 ghost use Rattle.std.specs.Prelude.{◌≡◌, ◌<◌, ◌≤◌, ℕ, List, length, IfOk, OnOk, OnErr};
-ghost use Rattle.std.specs.Io.KnownBytes.{WriteAppends};
+ghost use Rattle.std.specs.Io.KnownBytes.{Keeps, WriteAppends};
 ghost use Rattle.sled_base.specs.Causes.{HasCause};
 ghost use Rattle.sled_base.specs.Memory.{counted};
 
@@ -30,6 +30,23 @@ impl<W: Write> Writing<W> {
         ensures { result ≡ record { known = W.contents inner; faults = 0 } }
     {
         Writing { inner, faults: 0 }
+    }
+
+    /// Hands on what the writer holds back in a buffer of its own. An error of the writer is `Failed`, and the count goes up by one; an Ok
+    /// leaves the count as it was. The bytes that the writer tells stay the same.
+    pub fn flush(&mut self) -> Result<(), Failed>
+        ensures bytes { Keeps self.old.known self.new.known }
+        ensures cause { HasCause self.old.faults self.new.faults result }
+        ensures kept { OnOk result (self.new.faults ≡ self.old.faults) }
+        ensures failed { OnErr result (self.new.faults ≡ counted self.old.faults) }
+    {
+        match self.inner.flush() {
+            Ok(()) => Ok(()),
+            Err(_) => {
+                self.faults = self.faults.saturating_add(1);
+                Err(Failed)
+            }
+        }
     }
 }
 
