@@ -4,4 +4,8 @@
 #[cfg(test)]
 mod machines;
 #[cfg(test)]
+mod outside;
+#[cfg(test)]
+mod stream_tests;
+#[cfg(test)]
 mod tests;

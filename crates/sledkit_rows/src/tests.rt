@@ -1,7 +1,7 @@
 // Whole runs over texts, an input and sinks in memory.
 use crate::machines::{I486, MIPS, SPARC};
+use crate::outside::{Outside, answer, sound};
 use sled_base::{MemShelf, MemSink, MemSource};
-use std::alloc::Global;
 use std::test::Fail;
 use toolkit_cli::{Status, run};
 
@@ -35,53 +35,6 @@ const SUM_ONE_TOO_HIGH: &str = "case x != 0 ; x != 1 ; x != 2 ; x != 3 => \"a\"
     case x != 0 ; x != 1 ; x != 2 ; x != 3 => \"d\" case x = 0 => \"e\"";
 
 const LOAD_AND_STOP: &[u8] = b"\x01\0\0\x05\x02\0\0\0";
-
-/// The texts `s` and `m`, the input, the calls that fail for each of the four, and the room of the output.
-#[derive(Drop)]
-struct Outside<'a> {
-    spec: &'a str,
-    matching: &'a str,
-    input: &'a [u8],
-    shelf_fails: &'a [u64],
-    input_fails: &'a [u64],
-    out_fails: &'a [u64],
-    room: u32,
-    notes_fail: &'a [u64],
-}
-
-/// The status, the output and the notes.
-fn answer(
-    alloc: Global,
-    words: &[&str],
-    outside: &Outside<'_>,
-) -> Result<(Status, MemSink, MemSink), Fail> {
-    let mut owned = Vec::new(alloc);
-    for word in words {
-        owned.push(String::from_str(alloc, word)?)?;
-    }
-    let mut shelf = MemShelf::new(alloc, outside.shelf_fails)?;
-    shelf.add(b"s", outside.spec.as_bytes())?;
-    shelf.add(b"m", outside.matching.as_bytes())?;
-    let mut input = MemSource::new(alloc, outside.input, outside.input_fails)?;
-    let mut out = MemSink::new(alloc, outside.room, outside.out_fails)?;
-    let mut notes = MemSink::new(alloc, 200, outside.notes_fail)?;
-    let status = run(alloc, &owned, &mut shelf, &mut input, &mut out, &mut notes);
-    Ok((status, out, notes))
-}
-
-/// The texts and the input, where no call fails.
-fn sound<'a>(spec: &'a str, matching: &'a str, input: &'a [u8]) -> Outside<'a> {
-    Outside {
-        spec,
-        matching,
-        input,
-        shelf_fails: &[],
-        input_fails: &[],
-        out_fails: &[],
-        room: 200,
-        notes_fail: &[],
-    }
-}
 
 #[test]
 fn listings(rt: HostRuntime) -> Result<(), Fail> {
@@ -583,7 +536,7 @@ fn failing_calls(rt: HostRuntime) -> Result<(), Fail> {
     let write = Status::WriteFault;
     // SPEC's name, the input, the calls of shelf, input, output and notes that fail, the room of the output; the status, the output,
     // the notes.
-    let rows: [(&str, &[u8], [&[u64]; 4], u32, Status, &str, &str); 12] = [
+    let rows: [(&str, &[u8], [&[u64]; 4], u32, Status, &str, &str); 13] = [
         (
             "x",
             LOAD_AND_STOP,
@@ -641,6 +594,15 @@ fn failing_calls(rt: HostRuntime) -> Result<(), Fail> {
         (
             "s",
             LOAD_AND_STOP,
+            [&[], &[], &[2], &[]],
+            200,
+            write,
+            first,
+            "",
+        ),
+        (
+            "s",
+            LOAD_AND_STOP,
             [&[], &[], &[], &[]],
             27,
             write,
@@ -679,7 +641,7 @@ fn failing_calls(rt: HostRuntime) -> Result<(), Fail> {
         (
             "s",
             LOAD_AND_STOP,
-            [&[3], &[3], &[2], &[1]],
+            [&[3], &[3], &[3], &[1]],
             200,
             Status::Done,
             both,
@@ -699,6 +661,7 @@ fn failing_calls(rt: HostRuntime) -> Result<(), Fail> {
             spec: SPEC,
             matching: MATCH,
             input,
+            sizes: &[],
             shelf_fails,
             input_fails,
             out_fails,

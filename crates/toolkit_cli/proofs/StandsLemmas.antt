@@ -8,9 +8,7 @@ use Rattle.sled_base.specs.Causes.{Rose}
 use Rattle.sled_base.specs.Contents.{AppendsProperPrefix}
 use Rattle.sled_model.specs.declared.spec.Spec.{Spec}
 use Rattle.sled_model.specs.declared.statement.Statement.{Statement}
-use Rattle.match_engine.specs.declared.listing.Stop.{Stop}
-use Rattle.match_engine.specs.Listing.{listing}
-use Rattle.match_engine.specs.Listed.{WroteListing}
+use Rattle.image_listing.specs.declared.listing.Stop.{Stop}
 use Rattle.toolkit_cli.specs.declared.status.Status.{Status}
 use Rattle.toolkit_cli.specs.declared.status.Status.TheVariants.{Done, Refused, Usage, ReadFault, WriteFault, NoMemory}
 use Rattle.toolkit_cli.specs.declared.messages.Problem.{Problem}
@@ -19,9 +17,9 @@ use Rattle.toolkit_cli.specs.declared.texts.TextStop.{TextStop}
 use Rattle.toolkit_cli.specs.declared.texts.TextStop.TheVariants.{Unread as UnreadText, Refused as RefusedText, NoMemory as NoTextMemory}
 use Rattle.toolkit_cli.specs.Words.{Words}
 use Rattle.toolkit_cli.specs.Messages.{message, problem_number, usage_text}
-use Rattle.toolkit_cli.specs.Reply.{Settled, Shelved, no_form, refused_text, accepted, Settles, Reply, reply, refused, listing_reply, listed_reply, stop_problem, usage_reply}
+use Rattle.toolkit_cli.specs.Reply.{Settled, Shelved, no_form, refused_text, accepted, Settles, Reply, reply, refused, listing, listing_reply, listed_reply, stop_problem, usage_reply}
 use Rattle.toolkit_cli.specs.Told.{Told}
-use Rattle.toolkit_cli.specs.Stands.{Change, HasFailed, Gets, GetsPrefix, GetsNothing, IsReply, OutFailed, NotesFailed, HasPart, IsAnswer, Answered, Stands, StopTold, UnreadByWords, AcceptsByWords}
+use Rattle.toolkit_cli.specs.Stands.{Change, HasFailed, Gets, GetsPrefix, GetsNothing, IsReply, OutFailed, NotesFailed, HasPart, IsAnswer, Answered, IsForgone, Stands, StopTold, Unread, UnreadByWords, AcceptsByWords}
 
 -- where a mapped option is one, the option is
 map_some : {A B : Type 0} (o : Option A) (f : A → B) (r : B) → option_map f o ≡ Some r → (a : A) × (o ≡ Some a) × (f a ≡ r)
@@ -94,14 +92,14 @@ told_stands settles input unread sink log note wanted status s is so has (inr (i
 ))
 
 -- the message that a read failed
-pub unread_stands : (settles : Settled → Type 0) (input : Option (List ℕ)) (unread : List ℕ → Type 0) (sink log : Change) (name : List ℕ) (status : Status) → unread name → GetsNothing sink
-    → Told log.old log.new log.count log.new_count (message name problem.Unread) ReadFault status → Stands settles input unread sink log status
-unread_stands settles input unread sink log name status read kept (inl h) =
-    subst (λ (a : Status). Stands settles input unread sink log a) (sym h.0) (record { name = name; read = read; output = kept; notes = h.1 })
-unread_stands settles input unread sink log name status read kept (inr (inl h)) =
-    subst (λ (a : Status). Stands settles input unread sink log a) (sym h.0) (inr (record { cause = h.1; name = name; read = read; output = kept; notes = h.2 }))
-unread_stands settles input unread sink log name status read kept (inr (inr h)) =
-    subst (λ (a : Status). Stands settles input unread sink log a) (sym h.0) (inl (kept, h.1))
+pub unread_stands : (settles : Settled → Type 0) (input : Option (List ℕ)) (unread : List ℕ → Type 0) (sink log : Change) (name : List ℕ) (status : Status) → unread name
+    → (GetsNothing log → IsForgone settles input sink log) → Told log.old log.new log.count log.new_count (message name problem.Unread) ReadFault status → Stands settles input unread sink log status
+unread_stands settles input unread sink log name status read forgone (inl h) =
+    subst (λ (a : Status). Stands settles input unread sink log a) (sym h.0) (record { name = name; read = read; notes = h.1 })
+unread_stands settles input unread sink log name status read forgone (inr (inl h)) =
+    subst (λ (a : Status). Stands settles input unread sink log a) (sym h.0) (inr (record { cause = h.1; name = name; read = read; notes = h.2 }))
+unread_stands settles input unread sink log name status read forgone (inr (inr h)) =
+    subst (λ (a : Status). Stands settles input unread sink log a) (sym h.0) (forgone h.1)
 
 refused_output : (sink : Change) (name : List ℕ) (p : Problem) (r : Reply) → GetsNothing sink → Some (refused [] name p) ≡ Some r → HasOutput sink (message name p) (Refused (problem_number p)) r
 refused_output sink name p r kept e =
@@ -112,7 +110,7 @@ refused_output sink name p r kept e =
 pub stopped_stands : (settles : Settled → Type 0) (input : Option (List ℕ)) (unread : List ℕ → Type 0) (sink log : Change) (name : List ℕ) (stop : TextStop) (status : Status)
     → (stop ≡ UnreadText → unread name) → ((p : Problem) → stop ≡ RefusedText p → settles (refused_text name p)) → GetsNothing sink → StopTold log name stop status
     → Stands settles input unread sink log status
-stopped_stands settles input unread sink log name UnreadText status read so kept h = unread_stands settles input unread sink log name status (read refl) kept h
+stopped_stands settles input unread sink log name UnreadText status read so kept h = unread_stands settles input unread sink log name status (read refl) (λ k. inl (kept, k)) h
 stopped_stands settles input unread sink log name (RefusedText p) status read so kept h =
     told_stands settles input unread sink log (message name p) (Refused (problem_number p)) status (refused_text name p) tt (so p refl) (λ r e. refused_output sink name p r kept e) h
 stopped_stands settles input unread sink log name NoTextMemory status read so kept h =
@@ -124,29 +122,39 @@ pub Stands-along : (settles later : Settled → Type 0) (input : Option (List �
 Stands-along settles later input unread unread_later sink log Done up read h = (h.0, up h.0 h.1, h.2)
 Stands-along settles later input unread unread_later sink log (Refused number) up read h = (h.0, up h.0 h.1, h.2)
 Stands-along settles later input unread unread_later sink log Usage up read h = (h.0, up h.0 h.1, h.2)
-Stands-along settles later input unread unread_later sink log ReadFault up read h = record { name = h.name; read = read h.name h.read; output = h.output; notes = h.notes }
+Stands-along settles later input unread unread_later sink log ReadFault up read h = record { name = h.name; read = read h.name h.read; notes = h.notes }
 Stands-along settles later input unread unread_later sink log WriteFault up read (inl h) = inl (h.0, up h.0 h.1, h.2)
-Stands-along settles later input unread unread_later sink log WriteFault up read (inr h) = inr (record { cause = h.cause; name = h.name; read = read h.name h.read; output = h.output; notes = h.notes })
+Stands-along settles later input unread unread_later sink log WriteFault up read (inr h) = inr (record { cause = h.cause; name = h.name; read = read h.name h.read; notes = h.notes })
 Stands-along settles later input unread unread_later sink log NoMemory up read (inl h) = inl h
 Stands-along settles later input unread unread_later sink log NoMemory up read (inr h) = inr (h.0, up h.0 h.1, h.2)
 
 -- ---- the listing
 
--- the listing stopped, and its lines are written
-pub input_stopped : (spec : Spec) (statement : Statement) (base : ℕ) (input : Option (List ℕ)) (sink : Change) (stop : Stop)
-    → ForSome input (λ bytes. WroteListing (Some stop) sink.old sink.new (listing spec statement base bytes))
-    → ForSome (reply (accepted spec statement base) input) (HasOutput sink (message (codes "input") (stop_problem stop)) (Refused (problem_number (stop_problem stop))))
-input_stopped spec statement base input sink stop wrote r e =
-    let bytes = map_some input (λ (b : List ℕ). listing_reply (listing spec statement base b)) r e in
-    let l = listing spec statement base bytes.0 in
-    let done = wrote bytes.0 bytes.1 in
-    let same : refused l.lines (codes "input") (stop_problem stop) ≡ r = ap (λ (s : Option Stop). listed_reply l.lines s) (sym done.stop) ∙ bytes.2 in
-    subst (λ (x : Reply). HasOutput sink (message (codes "input") (stop_problem stop)) (Refused (problem_number (stop_problem stop))) x) same
-    (record { output = done.lines; text = refl; answer = refl })
-
 output_of : (lines : List ℕ) (stop : Option Stop) → (listed_reply lines stop).output ≡ lines
 output_of lines None = refl
 output_of lines (Some s) = refl
+
+-- what holds of the lines of the listing, holds of the output of the reply
+of_lines : (spec : Spec) (statement : Statement) (base : ℕ) (input : Option (List ℕ)) (P : List ℕ → Type 0) → ForSome input (λ bytes. P (listing spec statement base bytes).lines)
+    → ForSome (reply (accepted spec statement base) input) (λ r. P r.output)
+of_lines spec statement base input P so r e =
+    let bytes = map_some input (λ (b : List ℕ). listing_reply (listing spec statement base b)) r e in
+    let l = listing spec statement base bytes.0 in
+    subst P (sym (output_of l.lines l.stop) ∙ ap (λ (x : Reply). x.output) bytes.2) (so bytes.0 bytes.1)
+
+-- the listing ended so, and its lines are written
+pub input_listed : (spec : Spec) (statement : Statement) (base : ℕ) (input : Option (List ℕ)) (sink : Change) (stop : Option Stop) (note : List ℕ) (wanted : Status)
+    → (listed_reply [] stop).notes ≡ note → (listed_reply [] stop).status ≡ wanted
+    → ForSome input (λ bytes. Gets sink (listing spec statement base bytes).lines) → ForSome input (λ bytes. (listing spec statement base bytes).stop ≡ stop)
+    → ForSome (reply (accepted spec statement base) input) (HasOutput sink note wanted)
+input_listed spec statement base input sink stop note wanted text answer lines ended r e =
+    let bytes = map_some input (λ (b : List ℕ). listing_reply (listing spec statement base b)) r e in
+    let l = listing spec statement base bytes.0 in
+    let same : listed_reply l.lines stop ≡ r = ap (λ (s : Option Stop). listed_reply l.lines s) (sym (ended bytes.0 bytes.1)) ∙ bytes.2 in
+    subst (λ (x : Reply). HasOutput sink note wanted x) same (has_output l.lines stop text answer (lines bytes.0 bytes.1)) where
+      has_output : (ls : List ℕ) (stop : Option Stop) → (listed_reply [] stop).notes ≡ note → (listed_reply [] stop).status ≡ wanted → Gets sink ls → HasOutput sink note wanted (listed_reply ls stop)
+      has_output ls None text answer got = record { output = got; text = text; answer = answer }
+      has_output ls (Some s) text answer got = record { output = got; text = text; answer = answer }
 
 -- the output has a part of the lines
 pub input_unwritten : (spec : Spec) (statement : Statement) (base : ℕ) (input : Option (List ℕ)) (sink log : Change) → GetsNothing log → HasFailed sink
@@ -154,12 +162,15 @@ pub input_unwritten : (spec : Spec) (statement : Statement) (base : ℕ) (input 
     → OutFailed (reply (accepted spec statement base) input) sink log
 input_unwritten spec statement base input sink log kept cause part = record {
   cause = cause;
-  output = λ r e.
-      let bytes = map_some input (λ (b : List ℕ). listing_reply (listing spec statement base b)) r e in
-      let l = listing spec statement base bytes.0 in
-      subst (λ (out : List ℕ). AppendsProperPrefix sink.old sink.new out) (sym (output_of l.lines l.stop) ∙ ap (λ (x : Reply). x.output) bytes.2) (part bytes.0 bytes.1);
+  output = of_lines spec statement base input (λ lines. AppendsProperPrefix sink.old sink.new lines) part;
   notes = kept;
 }
+
+-- there was no memory behind some of the lines
+pub input_forgone : (spec : Spec) (statement : Statement) (base : ℕ) (input : Option (List ℕ)) (sink log : Change) → ForSome input (λ bytes. GetsPrefix sink (listing spec statement base bytes).lines)
+    → GetsNothing log → IsForgone (λ s. s ≡ accepted spec statement base) input sink log
+input_forgone spec statement base input sink log part kept =
+    inr (accepted spec statement base, refl, λ r e. record { output = of_lines spec statement base input (GetsPrefix sink) part r e; notes = GetsPrefix-none log r.notes kept })
 
 -- ---- the words
 
@@ -170,10 +181,10 @@ usage_output sink input kept r e =
     subst (λ (x : Reply). HasOutput sink usage_text Usage x) same (record { output = Gets-nothing sink kept; text = refl; answer = refl })
 
 -- what the words ask for decides
-pub by_words : (asked form : Option Words) (shelf : Shelved) (input : Option (List ℕ)) (shelf_rose : List ℕ → Type 0) (input_rose : Type 0) (sink log : Change) (status : Status) → asked ≡ form
-    → Stands (Settles form shelf) input (UnreadByWords form shelf shelf_rose input_rose) sink log status → Stands (Settles asked shelf) input (UnreadByWords asked shelf shelf_rose input_rose) sink log status
-by_words asked form shelf input shelf_rose input_rose sink log status e h =
-    subst (λ (w : Option Words). Stands (Settles w shelf) input (UnreadByWords w shelf shelf_rose input_rose) sink log status) (sym e) h
+pub by_words : (asked form : Option Words) (shelf : Shelved) (input : Option (List ℕ)) (shelf_rose : List ℕ → Type 0) (intake sink log : Change) (status : Status) → asked ≡ form
+    → Stands (Settles form shelf) input (UnreadByWords form shelf shelf_rose intake sink) sink log status → Stands (Settles asked shelf) input (UnreadByWords asked shelf shelf_rose intake sink) sink log status
+by_words asked form shelf input shelf_rose intake sink log status e h =
+    subst (λ (w : Option Words). Stands (Settles w shelf) input (UnreadByWords w shelf shelf_rose intake sink) sink log status) (sym e) h
 
 -- ---- each status by itself
 
@@ -187,14 +198,14 @@ stands_answer settles input unread sink log WriteFault is h = absurd is
 stands_answer settles input unread sink log NoMemory is h = absurd is
 
 -- no form: the usage text, a failed write of it, or no memory
-pub stands_no_form : (asked : Option Words) (shelf : Shelved) (input : Option (List ℕ)) (shelf_rose : List ℕ → Type 0) (input_rose : Type 0) (sink log : Change) (status : Status) → asked ≡ None
-    → Stands (Settles asked shelf) input (UnreadByWords asked shelf shelf_rose input_rose) sink log status → (status ≡ Usage) ⊎ ((status ≡ WriteFault) ⊎ (status ≡ NoMemory))
-stands_no_form asked shelf input shelf_rose input_rose sink log status e h =
-    formless status (subst (λ (w : Option Words). Stands (Settles w shelf) input (UnreadByWords w shelf shelf_rose input_rose) sink log status) e h) where
+pub stands_no_form : (asked : Option Words) (shelf : Shelved) (input : Option (List ℕ)) (shelf_rose : List ℕ → Type 0) (intake sink log : Change) (status : Status) → asked ≡ None
+    → Stands (Settles asked shelf) input (UnreadByWords asked shelf shelf_rose intake sink) sink log status → (status ≡ Usage) ⊎ ((status ≡ WriteFault) ⊎ (status ≡ NoMemory))
+stands_no_form asked shelf input shelf_rose intake sink log status e h =
+    formless status (subst (λ (w : Option Words). Stands (Settles w shelf) input (UnreadByWords w shelf shelf_rose intake sink) sink log status) e h) where
       usage_status : (answer : Status) (s : Settled) → s ≡ no_form → ForSome (reply s input) (IsReply sink log answer) → answer ≡ Usage
       usage_status answer s is h = (subst (λ (x : Settled). ForSome (reply x input) (IsReply sink log answer)) is h usage_reply refl).status
 
-      formless : (status : Status) → Stands (λ s. s ≡ no_form) input (UnreadByWords None shelf shelf_rose input_rose) sink log status → (status ≡ Usage) ⊎ ((status ≡ WriteFault) ⊎ (status ≡ NoMemory))
+      formless : (status : Status) → Stands (λ s. s ≡ no_form) input (UnreadByWords None shelf shelf_rose intake sink) sink log status → (status ≡ Usage) ⊎ ((status ≡ WriteFault) ⊎ (status ≡ NoMemory))
       formless Done h = inl (usage_status Done h.0 h.1 h.2)
       formless (Refused number) h = inl (usage_status (Refused number) h.0 h.1 h.2)
       formless Usage h = inl refl
@@ -237,16 +248,24 @@ untouched_by asked shelf input P sink nothing h = by_case (silent asked shelf in
   by_case (inl a) = inl a
   by_case (inr k) = inr (nothing k.0 k.2 (h.2 k.0 k.1))
 
-pub stands_untouched : (asked : Option Words) (shelf : Shelved) (input : Option (List ℕ)) (unread : List ℕ → Type 0) (sink log : Change) (status : Status)
-    → Stands (Settles asked shelf) input unread sink log status → AcceptsByWords asked shelf ⊎ GetsNothing sink
-stands_untouched asked shelf input unread sink log Done h = untouched_by asked shelf input (IsReply sink log Done) sink (λ r e k. got_nothing sink r.output e k.output) h
-stands_untouched asked shelf input unread sink log (Refused number) h = untouched_by asked shelf input (IsReply sink log (Refused number)) sink (λ r e k. got_nothing sink r.output e k.output) h
-stands_untouched asked shelf input unread sink log Usage h = untouched_by asked shelf input (IsReply sink log Usage) sink (λ r e k. got_nothing sink r.output e k.output) h
-stands_untouched asked shelf input unread sink log ReadFault h = inr h.output
-stands_untouched asked shelf input unread sink log WriteFault (inr h) = inr h.output
-stands_untouched asked shelf input unread sink log WriteFault (inl h) = by_part h.2 where
+-- a text that cannot be read leaves the output as it is, and before the input both are accepted
+unread_untouched : (asked : Option Words) (shelf : Shelved) (shelf_rose : List ℕ → Type 0) (intake sink : Change) (name : List ℕ) → UnreadByWords asked shelf shelf_rose intake sink name
+    → AcceptsByWords asked shelf ⊎ GetsNothing sink
+unread_untouched None shelf shelf_rose intake sink name h = absurd h
+unread_untouched (Some words) shelf shelf_rose intake sink name (inl h) = inr h.2
+unread_untouched (Some words) shelf shelf_rose intake sink name (inr (inl h)) = inr h.3
+unread_untouched (Some words) shelf shelf_rose intake sink name (inr (inr (e, spec, statement, both, more))) = inl (both.0, statement, both.2, both.3)
+
+pub stands_untouched : (asked : Option Words) (shelf : Shelved) (input : Option (List ℕ)) (shelf_rose : List ℕ → Type 0) (intake sink log : Change) (status : Status)
+    → Stands (Settles asked shelf) input (UnreadByWords asked shelf shelf_rose intake sink) sink log status → AcceptsByWords asked shelf ⊎ GetsNothing sink
+stands_untouched asked shelf input shelf_rose intake sink log Done h = untouched_by asked shelf input (IsReply sink log Done) sink (λ r e k. got_nothing sink r.output e k.output) h
+stands_untouched asked shelf input shelf_rose intake sink log (Refused number) h = untouched_by asked shelf input (IsReply sink log (Refused number)) sink (λ r e k. got_nothing sink r.output e k.output) h
+stands_untouched asked shelf input shelf_rose intake sink log Usage h = untouched_by asked shelf input (IsReply sink log Usage) sink (λ r e k. got_nothing sink r.output e k.output) h
+stands_untouched asked shelf input shelf_rose intake sink log ReadFault h = unread_untouched asked shelf shelf_rose intake sink h.name h.read
+stands_untouched asked shelf input shelf_rose intake sink log WriteFault (inr h) = unread_untouched asked shelf shelf_rose intake sink h.name h.read
+stands_untouched asked shelf input shelf_rose intake sink log WriteFault (inl h) = by_part h.2 where
   by_part : OutFailed (reply h.0 input) sink log ⊎ NotesFailed (reply h.0 input) sink log → AcceptsByWords asked shelf ⊎ GetsNothing sink
   by_part (inl k) = untouched_by asked shelf input (λ r. AppendsProperPrefix sink.old sink.new r.output) sink (λ r e part. absurd (no_proper sink r.output e part)) (h.0, h.1, k.output)
   by_part (inr k) = untouched_by asked shelf input (λ r. Gets sink r.output) sink (λ r e got. got_nothing sink r.output e got) (h.0, h.1, k.output)
-stands_untouched asked shelf input unread sink log NoMemory (inl h) = inr h.0
-stands_untouched asked shelf input unread sink log NoMemory (inr h) = untouched_by asked shelf input (HasPart sink log) sink (λ r e k. got_part sink r.output e k.output) h
+stands_untouched asked shelf input shelf_rose intake sink log NoMemory (inl h) = inr h.0
+stands_untouched asked shelf input shelf_rose intake sink log NoMemory (inr h) = untouched_by asked shelf input (HasPart sink log) sink (λ r e k. got_part sink r.output e k.output) h

@@ -4,9 +4,10 @@ use Rattle.std.specs.Option.{ForSome}
 use Rattle.sled_model.specs.declared.spec.Spec.{Spec}
 use Rattle.sled_model.specs.declared.statement.Statement.{Statement}
 use Rattle.sled_elab.specs.Declarations.{Described}
-use Rattle.match_engine.specs.declared.listing.Stop.{Stop}
-use Rattle.match_engine.specs.declared.listing.Stop.TheVariants as stop
-use Rattle.match_engine.specs.Listing.{Listing, listing}
+use Rattle.image_listing.specs.declared.listing.Stop.{Stop}
+use Rattle.image_listing.specs.declared.listing.Stop.TheVariants as stop
+use Rattle.image_listing.specs.Listing.{Listing, listing_by, listing_front}
+use Rattle.match_engine.specs.Listing.{taken}
 use Rattle.toolkit_cli.specs.declared.status.Status.{Status}
 use Rattle.toolkit_cli.specs.declared.status.Status.TheVariants.{Done, Refused, Usage}
 use Rattle.toolkit_cli.specs.declared.messages.Problem.{Problem}
@@ -67,6 +68,16 @@ IsToldText shelf name = (t : List ℕ) × (shelf.text name ≡ Some t)
 abbrev pub TellsTexts : Option Words → Shelved → Type 0
 TellsTexts None shelf = Unit {0}
 TellsTexts (Some words) shelf = IsToldText shelf words.spec × IsToldText shelf words.matching
+
+-- ---- the listing
+
+-- the listing of the bytes by the statement, the first of which stands at address `base`
+abbrev pub listing : Spec → Statement → ℕ → List ℕ → Listing
+listing spec statement base bytes = listing_by (taken spec statement) base bytes
+
+-- its front, which stops before the first place with fewer than 32 bytes left
+abbrev pub front : Spec → Statement → ℕ → List ℕ → Listing
+front spec statement base bytes = listing_front (taken spec statement) base bytes
 
 -- ---- what is written and answered
 

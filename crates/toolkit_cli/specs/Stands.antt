@@ -1,9 +1,10 @@
 -- What stands after a run, status by status.
 use Rattle.std.specs.Prelude.{◌≡◌, ℕ, ◌⊎◌, List, take, Option, None, Some, codes}
 use Rattle.std.specs.Option.{ForSome}
-use Rattle.std.specs.Io.KnownBytes.{Appends, Keeps}
+use Rattle.std.specs.Io.KnownBytes.{Appends, Consumes, Keeps}
 use Rattle.sled_base.specs.Causes.{Rose}
 use Rattle.sled_base.specs.Contents.{AppendsProperPrefix}
+use Rattle.sled_model.specs.declared.spec.Spec.{Spec}
 use Rattle.sled_model.specs.declared.statement.Statement.{Statement}
 use Rattle.sled_elab.specs.Declarations.{Described}
 use Rattle.toolkit_cli.specs.declared.messages.Problem.TheVariants as problem
@@ -13,17 +14,17 @@ use Rattle.toolkit_cli.specs.declared.texts.TextStop.{TextStop}
 use Rattle.toolkit_cli.specs.declared.texts.TextStop.TheVariants.{Unread as UnreadText, Refused as RefusedText, NoMemory as NoTextMemory}
 use Rattle.toolkit_cli.specs.Words.{Words}
 use Rattle.toolkit_cli.specs.Messages.{message, problem_number}
-use Rattle.toolkit_cli.specs.Reply.{Settled, Shelved, Reply, reply, MakesSpec, MakesStatement}
+use Rattle.toolkit_cli.specs.Reply.{Settled, Shelved, Reply, reply, MakesSpec, MakesStatement, MakesBoth, front}
 use Rattle.toolkit_cli.specs.Told.{Told}
 
--- what a sink went through: its contents, where they are told, and its count of faults
+-- what the input or a sink went through: the bytes that it has left, or that it took, where they are told, and its count of faults
 pub record Change : Type 0 where
   pub old : Option (List ℕ)
   pub new : Option (List ℕ)
   pub count : ℕ
   pub new_count : ℕ
 
--- the sink's count rose
+-- its count rose
 abbrev pub HasFailed : Change → Type 0
 HasFailed s = Rose s.count s.new_count
 
@@ -57,16 +58,32 @@ abbrev pub AcceptsByWords : Option Words → Shelved → Type 0
 AcceptsByWords None shelf = ⊥
 AcceptsByWords (Some words) shelf = AcceptsTexts words shelf
 
--- a call that reads failed, a text's or the input's, and this is its name; what is read before it is accepted
-abbrev pub Unread : Words → Shelved → (List ℕ → Type 0) → Type 0 → List ℕ → Type 0
-Unread words shelf shelf_rose input_rose name =
-    ((name ≡ words.spec) × shelf_rose words.spec)
-    ⊎ (((name ≡ words.matching) × AcceptsSpec words shelf × shelf_rose words.matching)
-    ⊎ ((name ≡ codes "input") × AcceptsTexts words shelf × input_rose))
+-- the input gave some bytes, the sink got the lines of the front of their listing, and that run refuses no place
+pub record HasFront (spec : Spec) (statement : Statement) (base : ℕ) (intake sink : Change) : Type 0 where
+  pub given : List ℕ
+  pub taken : Consumes intake.old intake.new given
+  pub stop : (front spec statement base given).stop ≡ None
+  pub lines : Gets sink (front spec statement base given).lines
 
-abbrev pub UnreadByWords : Option Words → Shelved → (List ℕ → Type 0) → Type 0 → List ℕ → Type 0
-UnreadByWords None shelf shelf_rose input_rose name = ⊥
-UnreadByWords (Some words) shelf shelf_rose input_rose name = Unread words shelf shelf_rose input_rose name
+-- a read of the input failed, behind some bytes that are listed
+abbrev pub InputUnread : Spec → Statement → ℕ → Change → Change → Type 0
+InputUnread spec statement base intake sink = HasFailed intake × HasFront spec statement base intake sink
+
+-- and this is its name
+abbrev pub ReadsInput : Spec → Statement → ℕ → Change → Change → List ℕ → Type 0
+ReadsInput spec statement base intake sink name = (name ≡ codes "input") × InputUnread spec statement base intake sink
+
+-- A call that reads failed, a text's or the input's, and this is its name; what is read before it is accepted. Where it is a text's,
+-- the sink got nothing.
+abbrev pub Unread : Words → Shelved → (List ℕ → Type 0) → Change → Change → List ℕ → Type 0
+Unread words shelf shelf_rose intake sink name =
+    ((name ≡ words.spec) × shelf_rose words.spec × GetsNothing sink)
+    ⊎ (((name ≡ words.matching) × AcceptsSpec words shelf × shelf_rose words.matching × GetsNothing sink)
+    ⊎ ((name ≡ codes "input") × ((spec : Spec) × (statement : Statement) × MakesBoth words shelf spec statement × InputUnread spec statement words.base intake sink)))
+
+abbrev pub UnreadByWords : Option Words → Shelved → (List ℕ → Type 0) → Change → Change → List ℕ → Type 0
+UnreadByWords None shelf shelf_rose intake sink name = ⊥
+UnreadByWords (Some words) shelf shelf_rose intake sink name = Unread words shelf shelf_rose intake sink name
 
 -- ---- what stands
 
@@ -94,18 +111,16 @@ pub record NotesFailed (told : Option Reply) (sink log : Change) : Type 0 where
   pub notes : ForSome told (λ r. GetsProperPrefix log r.notes)
 
 -- the sink for the notes failed, on the message that a read failed
-pub record UnreadNotesFailed (unread : List ℕ → Type 0) (sink log : Change) : Type 0 where
+pub record UnreadNotesFailed (unread : List ℕ → Type 0) (log : Change) : Type 0 where
   pub cause : HasFailed log
   pub name : List ℕ
   pub read : unread name
-  pub output : GetsNothing sink
   pub notes : GetsProperPrefix log (message name problem.Unread)
 
--- a read failed: nothing is written but its message
-pub record IsUnread (unread : List ℕ → Type 0) (sink log : Change) : Type 0 where
+-- a read failed: the notes have its message
+pub record IsUnread (unread : List ℕ → Type 0) (log : Change) : Type 0 where
   pub name : List ℕ
   pub read : unread name
-  pub output : GetsNothing sink
   pub notes : Gets log (message name problem.Unread)
 
 -- words and shelf come to something, and where the reply to that is told, so much holds of it
@@ -116,7 +131,7 @@ Answered settles input P = (s : Settled) × settles s × ForSome (reply s input)
 abbrev pub IsUnwritten : (Settled → Type 0) → Option (List ℕ) → (List ℕ → Type 0) → Change → Change → Type 0
 IsUnwritten settles input unread out notes =
     ((s : Settled) × settles s × (OutFailed (reply s input) out notes ⊎ NotesFailed (reply s input) out notes))
-    ⊎ UnreadNotesFailed unread out notes
+    ⊎ UnreadNotesFailed unread notes
 
 -- there was no memory: nothing is written, or parts of the reply
 abbrev pub IsForgone : (Settled → Type 0) → Option (List ℕ) → Change → Change → Type 0
@@ -133,13 +148,9 @@ abbrev pub Stands : (Settled → Type 0) → Option (List ℕ) → (List ℕ →
 Stands settles input unread out notes Done = Answered settles input (IsReply out notes Done)
 Stands settles input unread out notes (Refused number) = Answered settles input (IsReply out notes (Refused number))
 Stands settles input unread out notes Usage = Answered settles input (IsReply out notes Usage)
-Stands settles input unread out notes ReadFault = IsUnread unread out notes
+Stands settles input unread out notes ReadFault = IsUnread unread notes
 Stands settles input unread out notes WriteFault = IsUnwritten settles input unread out notes
 Stands settles input unread out notes NoMemory = IsForgone settles input out notes
-
--- a read of the input failed
-abbrev pub InputUnread : Type 0 → List ℕ → Type 0
-InputUnread input_rose name = (name ≡ codes "input") × input_rose
 
 -- what the notes get where a text does not serve
 abbrev pub StopTold : Change → List ℕ → TextStop → Status → Type 0

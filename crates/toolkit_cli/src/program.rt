@@ -7,13 +7,14 @@ ghost use Rattle.sled_model.specs.PlainStatements.{IsPlainStatement};
 ghost use Rattle.toolkit_cli.specs.CommandWords.{command_words};
 ghost use Rattle.toolkit_cli.specs.Words.{words_of};
 ghost use Rattle.toolkit_cli.specs.Reply.{Settled, Settles, SettlesDis, TellsTexts, accepted, reply};
-ghost use Rattle.toolkit_cli.specs.Stands.{AcceptsByWords, AcceptsTexts, Stands, StopTold, InputUnread, Unread, UnreadByWords, Answered, IsAnswer, IsReply, IsUnread, IsUnwritten, IsForgone};
+ghost use Rattle.toolkit_cli.specs.Stands.{AcceptsByWords, AcceptsTexts, Stands, StopTold, ReadsInput, Unread, UnreadByWords, Answered, IsAnswer, IsReply, IsUnread, IsUnwritten, IsForgone};
 
 use crate::messages::Problem;
 use crate::status::Status;
 use crate::texts::{TextStop, described, read_decls, read_statement, say, tell};
 use crate::words::{Command, command_of};
-use match_engine::{ListFault, list};
+use image_listing::{ListFault, list};
+use match_engine::compile;
 use sled_base::{Shelf, Sink, Source};
 use sled_model::{Spec, Statement};
 use std::alloc::Global;
@@ -53,17 +54,21 @@ pub fn run<H: Shelf, I: Source, O: Sink, E: Sink>(
     ensures usage { result ≡ Status.Usage → words_of (map string_bytes words.now) ≡ None }
     ensures no_form { words_of (map string_bytes words.now) ≡ None → (result ≡ Status.Usage) ⊎ ((result ≡ Status.WriteFault) ⊎ (result ≡ Status.NoMemory)) }
 
-    // A read failed: its name, its count, the texts before it, and nothing written but its message.
+    // A read failed: its name, its count, the texts before it, its message, and what out got: of a text nothing, of the input the
+    // lines of the front of the listing of the bytes that were given.
     ensures read_fault { result ≡ Status.ReadFault → IsUnread
         (UnreadByWords (words_of (map string_bytes words.now)) (record { text = H.text shelf.old; lacks = H.lacks shelf.old })
-        (λ name. Rose (H.faults shelf.old name) (H.faults shelf.new name)) (Rose (I.faults input.old) (I.faults input.new)))
-        (record { old = O.contents out.old; new = O.contents out.new; count = O.faults out.old; new_count = O.faults out.new })
+        (λ name. Rose (H.faults shelf.old name) (H.faults shelf.new name))
+        (record { old = I.left input.old; new = I.left input.new; count = I.faults input.old; new_count = I.faults input.new })
+        (record { old = O.contents out.old; new = O.contents out.new; count = O.faults out.old; new_count = O.faults out.new }))
         (record { old = E.contents notes.old; new = E.contents notes.new; count = E.faults notes.old; new_count = E.faults notes.new }) }
 
     // A write failed: the count of out or of notes, and what each got.
     ensures write_fault { result ≡ Status.WriteFault → IsUnwritten (Settles (words_of (map string_bytes words.now)) (record { text = H.text shelf.old; lacks = H.lacks shelf.old })) (I.left input.old)
         (UnreadByWords (words_of (map string_bytes words.now)) (record { text = H.text shelf.old; lacks = H.lacks shelf.old })
-        (λ name. Rose (H.faults shelf.old name) (H.faults shelf.new name)) (Rose (I.faults input.old) (I.faults input.new)))
+        (λ name. Rose (H.faults shelf.old name) (H.faults shelf.new name))
+        (record { old = I.left input.old; new = I.left input.new; count = I.faults input.old; new_count = I.faults input.new })
+        (record { old = O.contents out.old; new = O.contents out.new; count = O.faults out.old; new_count = O.faults out.new }))
         (record { old = O.contents out.old; new = O.contents out.new; count = O.faults out.old; new_count = O.faults out.new })
         (record { old = E.contents notes.old; new = E.contents notes.new; count = E.faults notes.old; new_count = E.faults notes.new }) }
 
@@ -98,7 +103,9 @@ fn answer<H: Shelf, I: Source, O: Sink, E: Sink>(
 ) -> Status
     ensures stands { Stands (Settles (words_of (map string_bytes words.now)) (record { text = H.text shelf.old; lacks = H.lacks shelf.old })) (I.left input.old)
         (UnreadByWords (words_of (map string_bytes words.now)) (record { text = H.text shelf.old; lacks = H.lacks shelf.old })
-        (λ name. Rose (H.faults shelf.old name) (H.faults shelf.new name)) (Rose (I.faults input.old) (I.faults input.new)))
+        (λ name. Rose (H.faults shelf.old name) (H.faults shelf.new name))
+        (record { old = I.left input.old; new = I.left input.new; count = I.faults input.old; new_count = I.faults input.new })
+        (record { old = O.contents out.old; new = O.contents out.new; count = O.faults out.old; new_count = O.faults out.new }))
         (record { old = O.contents out.old; new = O.contents out.new; count = O.faults out.old; new_count = O.faults out.new })
         (record { old = E.contents notes.old; new = E.contents notes.new; count = E.faults notes.old; new_count = E.faults notes.new })
         result }
@@ -126,7 +133,9 @@ fn dis<H: Shelf, I: Source, O: Sink, E: Sink>(
 ) -> Status
     ensures stands { Stands (SettlesDis (command_words command.now) (record { text = H.text shelf.old; lacks = H.lacks shelf.old })) (I.left input.old)
         (Unread (command_words command.now) (record { text = H.text shelf.old; lacks = H.lacks shelf.old })
-        (λ name. Rose (H.faults shelf.old name) (H.faults shelf.new name)) (Rose (I.faults input.old) (I.faults input.new)))
+        (λ name. Rose (H.faults shelf.old name) (H.faults shelf.new name))
+        (record { old = I.left input.old; new = I.left input.new; count = I.faults input.old; new_count = I.faults input.new })
+        (record { old = O.contents out.old; new = O.contents out.new; count = O.faults out.old; new_count = O.faults out.new }))
         (record { old = O.contents out.old; new = O.contents out.new; count = O.faults out.old; new_count = O.faults out.new })
         (record { old = E.contents notes.old; new = E.contents notes.new; count = E.faults notes.old; new_count = E.faults notes.new })
         result }
@@ -185,14 +194,19 @@ fn listed<I: Source, O: Sink, E: Sink>(
 ) -> Status
     requires { IsPlainStatement spec.now statement.now }
     ensures stands { Stands (λ s. s ≡ accepted spec.now statement.now base) (I.left input.old)
-        (InputUnread (Rose (I.faults input.old) (I.faults input.new)))
+        (ReadsInput spec.now statement.now base
+        (record { old = I.left input.old; new = I.left input.new; count = I.faults input.old; new_count = I.faults input.new })
+        (record { old = O.contents out.old; new = O.contents out.new; count = O.faults out.old; new_count = O.faults out.new }))
         (record { old = O.contents out.old; new = O.contents out.new; count = O.faults out.old; new_count = O.faults out.new })
         (record { old = E.contents notes.old; new = E.contents notes.new; count = E.faults notes.old; new_count = E.faults notes.new })
         result }
     ensures usage { result ≢ Status.Usage }
     ensures read_to_end { result ≡ Status.Done → IsAtEnd (I.left input.new) }
 {
-    match list(alloc, spec, statement, base, input, out) {
+    let Ok(mut matcher) = compile(alloc, spec, statement) else {
+        return Status::NoMemory;
+    };
+    match list(alloc, &mut matcher, base, input, out) {
         Ok(_) => Status::Done,
         Err(ListFault::NoMatch(address)) => tell(
             alloc,

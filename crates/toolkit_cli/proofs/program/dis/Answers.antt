@@ -14,7 +14,7 @@ returns-in-Err-clause-stands g c =
     let kept = Keeps-same (g.O.Sink.contents c.args.out.now) (g.O.Sink.contents c.args.out.now) refl in
     let sink : Change = record { old = g.O.Sink.contents c.args.out.now; new = g.O.Sink.contents c.args.out.now; count = g.O.Sink.faults c.args.out.now; new_count = g.O.Sink.faults c.args.out.now } in
     stopped_stands _ _ _ sink _ c.args.command.now.spec.now c.in-Err.stop _
-    (λ e. inl (refl, c.in-Err.ensures.unread (ap Err e)))
+    (λ e. inl (refl, c.in-Err.ensures.unread (ap Err e), kept))
     (λ p e. inl (refl, (subst (StopsThere (g.H.Shelf.lacks c.args.shelf.now c.args.command.now.spec.now)) e c.in-Err.ensures.stops, λ t told. subst (λ (s : TextStop). Stops RefusesDescription t s) e (c.in-Err.ensures.refused t told))))
     kept c.stopped.ensures.told
 
@@ -43,7 +43,7 @@ returns-in-Err-read_statement-clause-stands g c =
     let kept = Keeps-same (g.O.Sink.contents c.args.out.now) (g.O.Sink.contents c.args.out.now) refl in
     let sink : Change = record { old = g.O.Sink.contents c.args.out.now; new = g.O.Sink.contents c.args.out.now; count = g.O.Sink.faults c.args.out.now; new_count = g.O.Sink.faults c.args.out.now } in
     stopped_stands _ _ _ sink _ name c.in-Err-read_statement.stop _
-    (λ e. inr (inl (refl, (d, one), Rose-later _ _ _ (c.read_decls.ensures.later name) (c.in-Err-read_statement.ensures.unread (ap Err e)))))
+    (λ e. inr (inl (refl, (d, one), Rose-later _ _ _ (c.read_decls.ensures.later name) (c.in-Err-read_statement.ensures.unread (ap Err e)), kept)))
     (λ p e. inr (refl, (d, one, (sym (c.read_decls.ensures.absent name) ∙ subst (StopsThere (g.H.Shelf.lacks c.read_decls.new.shelf name)) e c.in-Err-read_statement.ensures.stops, λ t told. subst (λ (s : TextStop). Stops (RefusesStatement d) t s) e (c.in-Err-read_statement.ensures.refused t (c.read_decls.ensures.texts name ∙ told))))))
     kept c.stopped-in-Err-read_statement.ensures.told
 
@@ -58,7 +58,7 @@ returns-clause-stands g c =
     let two : IsThere shelf name (λ t. IsStated d t statement) = (sym (c.read_decls.ensures.absent name) ∙ c.in-Ok-read_statement.ensures.there, λ t told. c.in-Ok-read_statement.ensures.made t (c.read_decls.ensures.texts name ∙ told)) in
     Stands-along _ _ _ _ _ _ _ _
     (λ s e. subst (SettlesDis (command_words c.args.command.now) shelf) (sym e) (refl, (d, refl, one, two)))
-    (λ who read. inr (inr (read.0, (d, statement, one, two), read.1)))
+    (λ who read. inr (inr (read.0, d.spec, statement, (d, refl, one, two), read.1)))
     c.listed.ensures.stands
 
 pub returns-clause-unasked : goal.returns-clause-unasked
