@@ -1,8 +1,7 @@
 -- What stands at a place by a plain statement.
-use Rattle.std.proofs.Common.{◌≡◌, ℕ, ◌<◌, ◌≤◌, ◌⊎◌, inl, inr, min, List, length, take, decimal, slice_get, codes, ◌++◌, Option, Some, None, IfSome, refl, sym, ap, ◌∙◌, arith}
+use Rattle.std.proofs.Common.{◌≡◌, ℕ, ◌<◌, ◌≤◌, min, List, length, take, decimal, slice_get, codes, ◌++◌, Option, Some, None, IfSome, refl, sym, ap, ◌∙◌, arith}
 use Rattle.std.specs.Option.{option_map}
-use Rattle.std.proofs.Math.Seq.{take-length}
-use Rattle.std.proofs.lemmas.Bool.{cases_lt}
+use Rattle.std.proofs.lemmas.Bool.{lt-ltb}
 use Rattle.std.proofs.lemmas.List.{length-take}
 use Rattle.sled_model.specs.declared.raw.Match.{Match}
 use Rattle.sled_model.specs.declared.spec.Spec.{Spec}
@@ -11,9 +10,9 @@ use Rattle.sled_model.specs.declared.statement.Statement.{Statement}
 use Rattle.sled_model.specs.First.{first}
 use Rattle.sled_model.specs.PlainStatements.{IsMatchLength, IsPlainStatement}
 use Rattle.sled_model.proofs.Front.{first-front, first-length, first-within}
-use Rattle.match_engine.specs.Listing.{arm_taken, skip_taken, taken_by, taken}
+use Rattle.image_listing.specs.Listing.{placed}
+use Rattle.match_engine.specs.Taken.{arm_taken, skip_taken, taken_by, taken}
 use Rattle.match_engine.specs.Matcher.{Told, numbered, told_taken}
-use Rattle.match_engine.proofs.Places.{IsLocal}
 
 -- what is taken of so many bytes
 pub record Takes (bytes : List ℕ) (n : ℕ) : Type 0 where
@@ -36,14 +35,6 @@ skip-front (Some k) bytes n h le =
     ap (λ c. Some (c, codes ".skip " ++ decimal c)) count
 
 module _ (spec : Spec) (statement : Statement) (plain : IsPlainStatement spec statement) where
-  -- what the bytes that are handed over decide
-  pub window-first : (bytes : List ℕ) (n : ℕ) → n ≡ min (length bytes) 32 → first spec statement (take n bytes) ≡ first spec statement bytes
-  window-first bytes n is = by_length (cases_lt (length bytes) 32)
-    where
-      by_length : (length bytes < 32) ⊎ (32 ≤ length bytes) → first spec statement (take n bytes) ≡ first spec statement bytes
-      by_length (inl few) = let whole : n ≡ length bytes = omega arith in ap (λ k. first spec statement (take k bytes)) whole ∙ ap (first spec statement) (take-length bytes)
-      by_length (inr many) = first-front spec statement plain bytes n (omega arith)
-
   told_first : (place k : ℕ) (bytes : List ℕ) (o : Option (ℕ × Match)) (t : Told) → Some (k, t) ≡ option_map numbered o
       → taken_by spec statement place bytes o ≡ option_map (told_taken spec place t) (slice_get statement.arms k)
   told_first place k bytes None t e = absurd (cc)
@@ -55,13 +46,12 @@ module _ (spec : Spec) (statement : Statement) (plain : IsPlainStatement spec st
   told_none place bytes None e = refl
   told_none place bytes (Some (j, m)) e = absurd (cc)
 
-  pub match-taken : (place n k : ℕ) (bytes : List ℕ) (t : Told) → n ≡ min (length bytes) 32 → Some (k, t) ≡ option_map numbered (first spec statement (take n bytes))
+  pub match-taken : (place k : ℕ) (bytes : List ℕ) (t : Told) → Some (k, t) ≡ option_map numbered (first spec statement bytes)
       → taken spec statement place bytes ≡ option_map (told_taken spec place t) (slice_get statement.arms k)
-  match-taken place n k bytes t is found = told_first place k bytes (first spec statement bytes) t (found ∙ ap (option_map numbered) (window-first bytes n is))
+  match-taken place k bytes t found = told_first place k bytes (first spec statement bytes) t found
 
-  pub skip-taken : (place n : ℕ) (bytes : List ℕ) → n ≡ min (length bytes) 32 → None ≡ option_map numbered (first spec statement (take n bytes))
-      → taken spec statement place bytes ≡ option_map (skip_taken bytes) statement.skip
-  skip-taken place n bytes is found = told_none place bytes (first spec statement bytes) (found ∙ ap (option_map numbered) (window-first bytes n is))
+  pub skip-taken : (place : ℕ) (bytes : List ℕ) → None ≡ option_map numbered (first spec statement bytes) → taken spec statement place bytes ≡ option_map (skip_taken bytes) statement.skip
+  skip-taken place bytes found = told_none place bytes (first spec statement bytes) found
 
   arm-takes : (place n k : ℕ) (bytes text : List ℕ) (m : Match) (o : Option Arm) → first spec statement bytes ≡ Some (k, m) → option_map (arm_taken spec place m) o ≡ Some (n, text) → Takes bytes n
   arm-takes place n k bytes text m None e is = absurd (cc)
@@ -83,9 +73,21 @@ module _ (spec : Spec) (statement : Statement) (plain : IsPlainStatement spec st
   same_skip place n bytes None le = skip-front statement.skip bytes n plain.skip le
   same_skip place n bytes (Some (k, m)) le = refl
 
-  pub taken-local : IsLocal (taken spec statement)
-  taken-local = record {
-    some = λ place n bytes text some e. (takes place n bytes text e).some some;
-    fits = λ place n bytes text e. (takes place n bytes text e).fits;
-    front = λ place n bytes le. ap (taken_by spec statement place (take n bytes)) (first-front spec statement plain bytes n le) ∙ same_skip place n bytes (first spec statement bytes) le;
-  }
+  -- the first 32 bytes decide
+  taken-front : (place : ℕ) (bytes : List ℕ) → taken spec statement place (take 32 bytes) ≡ taken spec statement place bytes
+  taken-front place bytes =
+      ap (taken_by spec statement place (take 32 bytes)) (first-front spec statement plain bytes 32 (omega arith)) ∙ same_skip place 32 bytes (first spec statement bytes) (omega arith)
+
+  -- what is taken of a window that is not empty
+  pub some-taken : (place n : ℕ) (window text : List ℕ) → 0 < length window → taken spec statement place window ≡ Some (n, text) → (0 < n) × (n ≤ length window)
+  some-taken place n window text some e = let t = takes place n window text e in (t.some some, t.fits)
+
+  -- is what is taken of all the bytes
+  pub window-taken : (place : ℕ) (window bytes text : List ℕ) (count : Option ℕ) → 0 < length window → window ≡ take 32 bytes
+      → taken spec statement place window ≡ option_map (λ n. (n, text)) count → placed (taken spec statement place bytes) ≡ option_map (λ n. (n, text)) count
+  window-taken place window bytes text count some front e =
+      ap placed (sym (taken-front place bytes) ∙ ap (taken spec statement place) (sym front) ∙ e) ∙ by_count count e
+    where
+      by_count : (o : Option ℕ) → taken spec statement place window ≡ option_map (λ n. (n, text)) o → placed (option_map (λ n. (n, text)) o) ≡ option_map (λ n. (n, text)) o
+      by_count None is = refl
+      by_count (Some n) is = let t = takes place n window text is in rw (lt-ltb 0 n (t.some some)) refl

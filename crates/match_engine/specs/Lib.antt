@@ -1,5 +1,3 @@
-pub mod Listing
-pub mod Listed
-pub mod Lines
+pub mod Taken
 pub mod Example
 pub mod Matcher

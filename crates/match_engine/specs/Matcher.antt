@@ -10,7 +10,7 @@ use Rattle.pattern_normal.specs.declared.case.Case.{Case}
 use Rattle.pattern_normal.specs.Alternatives.{IsBytes}
 use Rattle.pattern_normal.specs.Cases.{told_by_met, binds_and_len}
 use Rattle.match_engine.specs.declared.matcher.Matcher.{Matcher}
-use Rattle.match_engine.specs.Listing.{action_text}
+use Rattle.match_engine.specs.Taken.{action_text}
 
 -- what a result binds, and its length
 abbrev pub Told : Type 0

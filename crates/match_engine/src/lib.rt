@@ -1,15 +1,12 @@
-//! The listing of an image by a statement: a line for each place, with its address, its bytes and the text of the arm that matches.
+//! What stands at a place of an image by a plain statement: the first arm that has a result on the bytes, with the values of its names,
+//! or the skip. A statement that is made ready (`compile`) is a decoder of `image_listing`.
 #![tactic(auto)]
 
-mod image;
-mod line;
-mod listing;
+mod action;
 mod matcher;
 mod place;
 mod spot;
 #[cfg(test)]
 mod tests;
 
-pub use image::{ListFault, Listed, list};
-pub use listing::Stop;
 pub use matcher::{CaseLists, Matcher, compile};

@@ -8,7 +8,7 @@ use Rattle.sled_base.specs.Causes.{Rose}
 use Rattle.sled_base.specs.Contents.{AppendsProperPrefix}
 use Rattle.sled_model.specs.declared.spec.Spec.{Spec}
 use Rattle.sled_model.specs.declared.statement.Statement.{Statement}
-use Rattle.image_listing.specs.declared.listing.Stop.{Stop}
+use Rattle.image_listing.specs.declared.answers.Stop.{Stop}
 use Rattle.toolkit_cli.specs.declared.status.Status.{Status}
 use Rattle.toolkit_cli.specs.declared.status.Status.TheVariants.{Done, Refused, Usage, ReadFault, WriteFault, NoMemory}
 use Rattle.toolkit_cli.specs.declared.messages.Problem.{Problem}

@@ -1,6 +1,6 @@
 -- What goes to the notes.
 use Rattle.std.specs.Prelude.{ℕ, List, [], ◌∷◌, ◌++◌, codes, decimal}
-use Rattle.match_engine.specs.Listing.{address_text}
+use Rattle.image_listing.specs.Listing.{address_text}
 use Rattle.toolkit_cli.specs.declared.messages.Unit.{Unit as Part}
 use Rattle.toolkit_cli.specs.declared.messages.Unit.TheVariants as part
 use Rattle.toolkit_cli.specs.declared.messages.Problem.{Problem}

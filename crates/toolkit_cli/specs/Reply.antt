@@ -4,10 +4,10 @@ use Rattle.std.specs.Option.{ForSome}
 use Rattle.sled_model.specs.declared.spec.Spec.{Spec}
 use Rattle.sled_model.specs.declared.statement.Statement.{Statement}
 use Rattle.sled_elab.specs.Declarations.{Described}
-use Rattle.image_listing.specs.declared.listing.Stop.{Stop}
-use Rattle.image_listing.specs.declared.listing.Stop.TheVariants as stop
+use Rattle.image_listing.specs.declared.answers.Stop.{Stop}
+use Rattle.image_listing.specs.declared.answers.Stop.TheVariants as stop
 use Rattle.image_listing.specs.Listing.{Listing, listing_by, listing_front}
-use Rattle.match_engine.specs.Listing.{taken}
+use Rattle.match_engine.specs.Taken.{taken}
 use Rattle.toolkit_cli.specs.declared.status.Status.{Status}
 use Rattle.toolkit_cli.specs.declared.status.Status.TheVariants.{Done, Refused, Usage}
 use Rattle.toolkit_cli.specs.declared.messages.Problem.{Problem}
