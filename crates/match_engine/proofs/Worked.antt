@@ -1,9 +1,7 @@
--- The listing of a few bytes, and that the tests' statement is a plain one.
+-- The tests' statement is a plain one.
 use Rattle.std.proofs.Common.{◌≡◌, ℕ, ◌+◌, ◌-◌, ◌/◌, ◌<◌, max, Bool, true, false, cond, List, [], ◌∷◌, ◌++◌, map, filter, codes, refl, sym, subst, Option, Some, None, All, IfSome, arith}
 use Rattle.std.specs.List.{flat_map}
 use Rattle.std.proofs.lemmas.List.Elements.{All-nil, All-cons, All-append, All-map, All-filter, All-head, All-tail, All-weaker}
-use Rattle.std.specs.Fmt.{digits}
-use Rattle.hex.specs.Hex.{encode_with}
 use Rattle.token_bits.specs.declared.tokens.Class.{Class}
 use Rattle.token_bits.specs.declared.tokens.Field.{Field}
 use Rattle.token_bits.specs.declared.tokens.FieldId.{FieldId}
@@ -25,16 +23,7 @@ use Rattle.sled_model.proofs.MeasureLaws.{AllLeaves-to_Both, AllLeaves-to_Chain,
 use Rattle.sled_model.specs.declared.pattern.Pattern.{Pattern}
 use Rattle.sled_model.specs.declared.pattern.Argument.TheBlock.{hidden-the_row-Pattern-0}
 use denote.Hole.Carrier.{hidden}
-use Rattle.match_engine.specs.Listing.{listing_by, Taking}
 use Rattle.match_engine.specs.Example.{op_and_v, op_is, load, stop, next, three_arms}
-
--- four bytes at each place
-words : Taking
-words place bytes = Some (4, codes "word")
-
-two_words : (listing_by words 0x10 (1 ∷ 0 ∷ 0 ∷ 5 ∷ 2 ∷ 0 ∷ 0 ∷ 0xab ∷ [])).lines ≡ codes "00000010: 01000005  word" ++ (10 ∷ (codes "00000014: 020000ab  word" ++ 10 ∷ []))
-unfolding words digits encode_with
-two_words = refl
 
 -- results that are all of one length
 abbrev AllLong : ℕ → List Match → Type 0

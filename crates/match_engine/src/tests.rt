@@ -3,7 +3,8 @@ ghost use Rattle.token_bits.specs.Tokens.{IsWidth};
 ghost use Rattle.sled_model.specs.PlainStatements.{IsMatchLength};
 ghost use Rattle.match_engine.specs.Example.{op_and_v, op_is as op_term, load as load_arm, stop as stop_arm, next as next_arm, three_arms as statement_of};
 
-use crate::{ListFault, Listed, compile, list};
+use crate::compile;
+use image_listing::{ListFault, Listed, list};
 use sled_base::{MemSink, MemSource, NoMemory};
 use sled_model::{Arm, ConstructorNames, Name, Pattern, Piece, Relation, Spec, Statement};
 use sqlite_items::{Boxed, Items};
@@ -128,7 +129,7 @@ fn three_arms(alloc: Global, skip: Option<u8>) -> Result<Statement, NoMemory>
     Ok(Statement { arms, skip })
 }
 
-/// What `list` answers to the bytes, and what it writes.
+/// What `list` of the statement answers to the bytes, and what it writes.
 fn run(
     alloc: Global,
     width: u8,
@@ -146,7 +147,8 @@ fn run(
     let statement = three_arms(alloc, skip)?;
     let mut source = MemSource::new(alloc, bytes, &[])?;
     let mut sink = MemSink::new(alloc, 256, &[])?;
-    let answer = list(alloc, &spec, &statement, base, &mut source, &mut sink);
+    let mut matcher = compile(alloc, &spec, &statement)?;
+    let answer = list(alloc, &mut matcher, base, &mut source, &mut sink);
     Ok((answer, sink.bytes().to_vec(alloc)?))
 }
 
