@@ -1,1 +1,4 @@
 pub mod Addresses
+pub mod Places
+pub mod Steps
+pub mod Windows

@@ -22,10 +22,10 @@ MayFollow false least more = (1 ≤ least) × (least ≤ 32)
 MayFollow true least more = (least ≡ 1) × (more ≡ [])
 
 -- more bytes are held, unless the end was seen before
-pub record Filled (held now : List ℕ) (at_end at_end_now : Bool) (left rest : Option (List ℕ)) : Type 0 where
+pub record Filled (before now : List ℕ) (at_end at_end_now : Bool) (left rest : Option (List ℕ)) : Type 0 where
   pub given : List ℕ
   pub read : Consumes left rest given
-  pub held : now ≡ held ++ given
+  pub held : now ≡ before ++ given
   pub last : at_end ≡ true → given ≡ []
   pub stays : at_end ≡ true → at_end_now ≡ true
   pub end : (at_end ≡ true → IsAtEnd left) → at_end_now ≡ true → IsAtEnd rest
