@@ -2,3 +2,4 @@ pub mod Addresses
 pub mod Places
 pub mod Steps
 pub mod Windows
+pub mod Come

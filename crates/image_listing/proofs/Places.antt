@@ -1,9 +1,12 @@
 -- Listings from place to place.
-use Rattle.std.proofs.Common.{◌≡◌, ℕ, zero, suc, ◌+◌, ◌-◌, ◌^◌, ◌<◌, ◌≤◌, ◌⊎◌, inl, inr, cond, leb, ltb, List, [], ◌∷◌, length, take, drop, Option, Some, None, refl, sym, ap, ◌∙◌, arith}
+use Rattle.std.proofs.Common.{◌≡◌, ℕ, zero, suc, ◌+◌, ◌-◌, ◌^◌, ◌<◌, ◌≤◌, ◌⊎◌, inl, inr, cond, leb, ltb, List, [], ◌∷◌, length, take, drop, Option, Some, None, refl, ap, subst, ◌∙◌, arith}
 use Rattle.std.proofs.lemmas.Bool.{le-leb, lt-leb, le-ltb, lt-ltb, cases_lt}
 use Rattle.std.proofs.lemmas.List.{length-drop}
 use Rattle.image_listing.specs.declared.answers.Stop.TheVariants.{AddressEnd}
 use Rattle.image_listing.specs.Listing.{Listing, Taking, ended, placed, place_listing, places_from, listing_while}
+
+same_count : (p q : ℕ × List ℕ) → Some p ≡ Some q → 0 < p.0 → 0 < q.0
+same_count p q e some = let same : p ≡ q = cc in subst (λ (x : ℕ × List ℕ). 0 < x.0) same some
 
 -- a place takes a byte at least
 pub placed-some : (o : Option (ℕ × List ℕ)) (n : ℕ) (text : List ℕ) → placed o ≡ Some (n, text) → 0 < n
@@ -13,8 +16,7 @@ placed-some (Some (k, t)) n text e = by_count (cases_lt 0 k)
     by_count : (0 < k) ⊎ (k ≤ 0) → 0 < n
     by_count (inl some) =
         let here = rw (lt-ltb 0 k some) at e in
-        let same : k ≡ n = cc in
-        omega arith
+        same_count (k, t) (n, text) here some
     by_count (inr none) = let here = rw (le-ltb 0 k none) at e in absurd (cc)
 
 -- what follows a place counts only where it ends

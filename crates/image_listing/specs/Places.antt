@@ -2,6 +2,7 @@
 use Rattle.std.specs.Prelude.{◌≡◌, ℕ, ◌+◌, ◌^◌, ◌<◌, ◌≤◌, Bool, true, false, List, [], ◌++◌, length, take, drop, Option, None, Some, Result, Ok, Err}
 use Rattle.std.specs.Io.KnownBytes.{Appends, Consumes, IsAtEnd}
 use Rattle.image_listing.specs.declared.answers.Stop.{Stop}
+use Rattle.image_listing.specs.declared.answers.Stop.TheVariants.{NoMatch, AddressEnd}
 use Rattle.image_listing.specs.Listing.{Listing, Taking, listing_while, behind, ended}
 
 -- what stands at the place in front of the bytes: a line, and so many bytes of it, or nothing more
@@ -10,10 +11,11 @@ IsStep taking place bytes line (Ok count) =
     (least : ℕ) → 1 ≤ least → least ≤ length bytes → listing_while least taking place bytes ≡ behind line 1 (listing_while least taking (place + count) (drop count bytes))
 IsStep taking place bytes line (Err stop) = (least : ℕ) → 1 ≤ least → least ≤ length bytes → listing_while least taking place bytes ≡ ended place (Some stop)
 
--- the place ends behind its start, in the window and below the end of the addresses
+-- the place ends behind its start, in the window and below the end of the addresses, or it is the one that is refused
 abbrev pub IsWithin : ℕ → List ℕ → Result ℕ Stop → Type 0
 IsWithin place window (Ok count) = (0 < count) × (count ≤ length window) × (place + count ≤ 2 ^ 32)
-IsWithin place window (Err stop) = place ≤ 2 ^ 32
+IsWithin place window (Err (NoMatch a)) = a ≡ place
+IsWithin place window (Err (AddressEnd a)) = a ≡ place
 
 -- which listings can go on so behind the bytes that are held: behind the end of the source there are no more, and before it any, but
 -- only places with no more than 32 bytes were decided
