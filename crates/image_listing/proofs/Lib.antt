@@ -3,3 +3,4 @@ pub mod Places
 pub mod Steps
 pub mod Windows
 pub mod Come
+pub mod Ends

@@ -1,5 +1,5 @@
 // The bytes that were read and are not listed yet.
-ghost use Rattle.std.specs.Prelude.{◌≡◌, ◌≤◌, [], drop, take, length, true, false, OnOk, OnErr};
+ghost use Rattle.std.specs.Prelude.{◌≡◌, ◌<◌, ◌≤◌, [], drop, take, length, true, false, OnOk, OnErr};
 ghost use Rattle.std.specs.Option.{ForSome};
 ghost use Rattle.sled_base.specs.Causes.{HasCause};
 ghost use Rattle.image_listing.specs.Places.{Filled};
@@ -29,7 +29,8 @@ impl Window {
     pub fn fill<I: Source>(&mut self, source: &mut I) -> Result<(), Failed>
         ensures filled { Filled self.old.held.items self.new.held.items self.old.at_end self.new.at_end (I.left source.old) (I.left source.new) }
         ensures enough { OnOk result (self.new.at_end ≡ false → 32 ≤ length self.new.held.items) }
-        ensures open { OnErr result (self.new.at_end ≡ false) }
+        ensures unended { OnErr result (self.new.at_end ≡ false) }
+        ensures few { OnErr result (length self.new.held.items < 32) }
         ensures cause { HasCause (I.faults source.old) (I.faults source.new) result }
     {
         let mut piece = [0u8; 32];
@@ -49,7 +50,8 @@ impl Window {
 
     /// The first 32 bytes in hand, or all of them where they are fewer.
     pub fn front(&self) -> &[u8]
-        ensures { result.now ≡ take 32 self.now.held.items }
+        ensures front { result.now ≡ take 32 self.now.held.items }
+        ensures bounded { length self.now.held.items ≤ 64 }
     {
         let held = self.held.as_slice();
         &held[..held.len().min(32)]
