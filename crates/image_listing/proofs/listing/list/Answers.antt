@@ -2,6 +2,7 @@ use Rattle.std.proofs.Common.{◌≡◌, ◌<◌, ◌≤◌, ℕ, List, length, 
 use Rattle.image_listing.specs.declared.answers.Stop.{Stop}
 use Rattle.image_listing.specs.Places.{IsStep, IsWithin}
 use Rattle.image_listing.proofs.Come.{come_filled, come_line}
+use Rattle.image_listing.proofs.Windows.{some_held}
 use Rattle.image_listing.proofs.Ends.{wrote_part, all_listed, front_written, refused, was_cut, proper_part}
 use Rattle.image_listing.proofs.listing.list.Goals as goal
 
@@ -25,7 +26,7 @@ pub returns-in-Err-clause-listed : goal.returns-in-Err-clause-listed
 returns-in-Err-clause-listed g c taking stood =
     let come = come_filled _ _ _ _ _ _ _ _ _ _ _ _ _ c.loop-line.invariant.come c.fill.ensures.filled in
     let front = c.front-front.ensures.front in
-    let some : 0 < length c.fill.new.self.held.items = omega (arith, ap length front, length-take 32 c.fill.new.self.held.items) in
+    let some = some_held c.fill.new.self.held.items c.front-front.result.now front c.if-is_empty.ensures in
     refused _ taking stood _ _ _ _ _ _ _ _ _ come c.in-Ok.ensures.enough some c.front-front.ensures.bounded _ _ _ _ c.front-front.result.now c.set_place.new.self.text.items c.in-Err.stop c.from.result c.from.ensures
     (subst (λ (s : Result ℕ Stop). IsWithin c.loop-line.end c.front-front.result.now s) c.in-Err.is c.in-Ok-set_place.ensures.within)
     (λ bytes same.
@@ -36,7 +37,7 @@ pub returns-in_default-write_all-clause-listed : goal.returns-in_default-write_a
 returns-in_default-write_all-clause-listed g c taking stood =
     let come = come_filled _ _ _ _ _ _ _ _ _ _ _ _ _ c.loop-line.invariant.come c.fill.ensures.filled in
     let front = c.front-front.ensures.front in
-    let some : 0 < length c.fill.new.self.held.items = omega (arith, ap length front, length-take 32 c.fill.new.self.held.items) in
+    let some = some_held c.fill.new.self.held.items c.front-front.result.now front c.if-is_empty.ensures in
     let step = λ (bytes : List ℕ) (same : take 32 c.fill.new.self.held.items ≡ take 32 bytes).
         subst (λ (s : Result ℕ Stop). IsStep taking c.loop-line.end bytes c.set_place.new.self.text.items s) c.in-Ok-step.is
         (c.in-Ok-set_place.ensures.step taking bytes (c.loop-line.invariant.stands taking stood) (front ∙ same)) in
@@ -55,7 +56,7 @@ pub loop-line-preserved : goal.loop-line-preserved
 loop-line-preserved g c =
     let come = come_filled _ _ _ _ _ _ _ _ _ _ _ _ _ c.loop-line.invariant.come c.fill.ensures.filled in
     let front = c.front-front.ensures.front in
-    let some : 0 < length c.fill.new.self.held.items = omega (arith, ap length front, length-take 32 c.fill.new.self.held.items) in
+    let some = some_held c.fill.new.self.held.items c.front-front.result.now front c.if-is_empty.ensures in
     let within = subst (λ (s : Result ℕ Stop). IsWithin c.loop-line.end c.front-front.result.now s) c.in-Ok-step.is c.in-Ok-set_place.ensures.within in
     let count : c.in-Ok-step.count ≤ length c.fill.new.self.held.items = omega (arith, within.1, ap length front, length-take 32 c.fill.new.self.held.items) in
     record {
