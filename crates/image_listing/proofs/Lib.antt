@@ -1,0 +1,6 @@
+pub mod Addresses
+pub mod Places
+pub mod Steps
+pub mod Windows
+pub mod Come
+pub mod Ends
