@@ -79,8 +79,10 @@ module _ (spec : Spec) (statement : Statement) (plain : IsPlainStatement spec st
       ap (taken_by spec statement place (take 32 bytes)) (first-front spec statement plain bytes 32 (omega arith)) ∙ same_skip place 32 bytes (first spec statement bytes) (omega arith)
 
   -- what is taken of a window that is not empty
-  pub some-taken : (place n : ℕ) (window text : List ℕ) → 0 < length window → taken spec statement place window ≡ Some (n, text) → (0 < n) × (n ≤ length window)
-  some-taken place n window text some e = let t = takes place n window text e in (t.some some, t.fits)
+  pub within-window : (place : ℕ) (window text : List ℕ) (count : Option ℕ) → 0 < length window → taken spec statement place window ≡ option_map (λ n. (n, text)) count
+      → IfSome count (λ n. (0 < n) × (n ≤ length window))
+  within-window place window text None some e = tt
+  within-window place window text (Some n) some e = let t = takes place n window text e in (t.some some, t.fits)
 
   -- is what is taken of all the bytes
   pub window-taken : (place : ℕ) (window bytes text : List ℕ) (count : Option ℕ) → 0 < length window → window ≡ take 32 bytes
