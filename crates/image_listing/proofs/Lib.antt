@@ -4,3 +4,4 @@ pub mod Steps
 pub mod Windows
 pub mod Come
 pub mod Ends
+pub mod Smalls
