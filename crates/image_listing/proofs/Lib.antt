@@ -5,3 +5,4 @@ pub mod Windows
 pub mod Come
 pub mod Ends
 pub mod Smalls
+pub mod Worked

@@ -1,3 +1,5 @@
+ghost use Rattle.std.specs.Prelude.{◌≡◌, decimal, OnOk};
+
 use crate::{Decoder, ListFault, Listed, list};
 use sled_base::{MemSink, MemSource, NoMemory};
 use std::alloc::Global;
@@ -27,12 +29,20 @@ impl Decoder for Small {
         if count == 0 {
             return Ok(None);
         }
-        words.clear();
-        self.number.clear();
-        write!(self.number, "{first}")?;
-        words.extend_from_slice(self.number.as_bytes())?;
+        set_decimal(words, &mut self.number, first)?;
         Ok(Some(count))
     }
+}
+
+/// Makes the text a number.
+fn set_decimal(text: &mut Vec<u8>, number: &mut String, value: u8) -> Result<(), NoMemory>
+    ensures { OnOk result (text.new.items ≡ decimal value) }
+{
+    text.clear();
+    number.clear();
+    write!(number, "{value}")?;
+    text.extend_from_slice(number.as_bytes())?;
+    Ok(())
 }
 
 /// What `list` answers to the bytes in pieces of these sizes, where the reads and writes of these numbers fail, and what it writes.
@@ -59,7 +69,11 @@ const LINES: [u8; 70] =
 
 #[test]
 fn pieces(rt: HostRuntime) -> Result<(), Fail> {
-    for sizes in [&[1, 1, 1, 1, 1, 1, 1, 1].as_slice(), &[5, 5].as_slice(), &[].as_slice()] {
+    for sizes in [
+        &[1, 1, 1, 1, 1, 1, 1, 1].as_slice(),
+        &[5, 5].as_slice(),
+        &[].as_slice(),
+    ] {
         let (answer, text) = run(rt.alloc(), &IMAGE, sizes, &[], &[])?;
         assert_eq!(rt; answer, Ok(Listed { places: 4, end: 23 }));
         assert_eq!(rt; text.as_slice(), LINES.as_slice());
