@@ -4,3 +4,5 @@ pub mod Steps
 pub mod Windows
 pub mod Come
 pub mod Ends
+pub mod Smalls
+pub mod Worked

@@ -43,7 +43,7 @@ module _ (least : ℕ) (taking : Taking) (one : 1 ≤ least) where
   while-place place [] some low = absurd (omega arith)
   while-place place (b ∷ bs) some low =
       ap (λ t. cond t (ended place None) (cond (leb (2 ^ 32) place) (ended place (Some (AddressEnd place))) (place_listing place (b ∷ bs) (placed (taking place (b ∷ bs))) (places_from (length bs) least taking))))
-          (le-ltb (length (b ∷ bs)) least some)
+      (le-ltb (length (b ∷ bs)) least some)
       ∙ ap (λ t. cond t (ended place (Some (AddressEnd place))) (place_listing place (b ∷ bs) (placed (taking place (b ∷ bs))) (places_from (length bs) least taking))) (lt-leb (2 ^ 32) place low)
       ∙ place-same place (b ∷ bs) (placed (taking place (b ∷ bs))) (places_from (length bs) least taking) (listing_while least taking)
       (λ n text e. let some = placed-some (taking place (b ∷ bs)) n text e in

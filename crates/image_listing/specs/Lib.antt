@@ -1,3 +1,4 @@
 pub mod Listing
 pub mod Listed
 pub mod Places
+pub mod Small

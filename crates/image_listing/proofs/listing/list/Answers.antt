@@ -39,8 +39,8 @@ returns-in_default-write_all-clause-listed g c taking stood =
     let front = c.front-front.ensures.front in
     let some = some_held c.fill.new.self.held.items c.front-front.result.now front c.if-is_empty.ensures in
     let step = λ (bytes : List ℕ) (same : take 32 c.fill.new.self.held.items ≡ take 32 bytes).
-        subst (λ (s : Result ℕ Stop). IsStep taking c.loop-line.end bytes c.set_place.new.self.text.items s) c.in-Ok-step.is
-        (c.in-Ok-set_place.ensures.step taking bytes (c.loop-line.invariant.stands taking stood) (front ∙ same)) in
+    subst (λ (s : Result ℕ Stop). IsStep taking c.loop-line.end bytes c.set_place.new.self.text.items s) c.in-Ok-step.is
+    (c.in-Ok-set_place.ensures.step taking bytes (c.loop-line.invariant.stands taking stood) (front ∙ same)) in
     let cut = rw c.deref.ensures.value at c.in_default-write_all.ensures.failed in (
       omega (arith, c.in_default-write_all.ensures.cause.failed, c.loop-line.invariant.later_out),
       was_cut _ taking stood _ _ _ _ _ _ _ _ _ come c.in-Ok.ensures.enough some c.front-front.ensures.bounded c.set_place.new.self.text.items c.in-Ok-step.count cut.0 _ step cut.1 cut.2,
