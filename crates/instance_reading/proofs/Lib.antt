@@ -1,0 +1,4 @@
+pub mod Bits
+pub mod Targets
+pub mod Holders
+pub mod Numbers
