@@ -2,3 +2,4 @@ pub mod Bits
 pub mod Targets
 pub mod Holders
 pub mod Numbers
+pub mod BodyReads
