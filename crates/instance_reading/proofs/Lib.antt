@@ -3,3 +3,4 @@ pub mod Targets
 pub mod Holders
 pub mod Numbers
 pub mod BodyReads
+pub mod Entries
