@@ -4,3 +4,6 @@ pub mod Holders
 pub mod Numbers
 pub mod BodyReads
 pub mod Entries
+pub mod Choices
+pub mod Declared
+pub mod Inversions
