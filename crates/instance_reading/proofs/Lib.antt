@@ -7,3 +7,4 @@ pub mod Entries
 pub mod Choices
 pub mod Declared
 pub mod Inversions
+pub mod Meant
