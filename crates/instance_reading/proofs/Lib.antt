@@ -8,3 +8,4 @@ pub mod Choices
 pub mod Declared
 pub mod Inversions
 pub mod Meant
+pub mod OneInstance

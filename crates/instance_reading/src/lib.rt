@@ -1,2 +1,10 @@
-//! What the results of constructors' bodies mean: each the one instance, at each location.
+//! What the results of constructors' bodies mean: each one instance, at each location.
 #![tactic(auto)]
+
+ghost use Rattle.instance_reading.specs.Laws.{OneInstance};
+
+/// In a description whose instances can be read, each result of a constructor's body means one instance at each location, which the
+/// description admits, and which holds no label's address.
+pub fn one_instance()
+    ensures { OneInstance }
+{}
