@@ -9,3 +9,4 @@ pub mod Declared
 pub mod Inversions
 pub mod Meant
 pub mod OneInstance
+pub mod Worked
