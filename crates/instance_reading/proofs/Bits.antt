@@ -49,8 +49,10 @@ module _ (bits : ℕ → ℕ) (small : (i : ℕ) → bits i < 2) where
   number_from (suc n) =
       let r = number_from n in
       let one : bits n < 2 ^ 1 = (let b = small n in omega (arith, b)) in
-      let more : 1 + n ≡ suc n = omega arith in
-      (bits n * 2 ^ n + r.0, record {
-        below = subst (λ e. bits n * 2 ^ n + r.0 < 2 ^ e) more (cat_below (bits n) 1 r.0 n one r.1.below);
-        each = λ i l. with_bit n r.0 i r.1 l (cases_lt i n);
-      })
+      let more : 1 + n ≡ suc n = omega arith in (
+        bits n * 2 ^ n + r.0,
+        record {
+          below = subst (λ e. bits n * 2 ^ n + r.0 < 2 ^ e) more (cat_below (bits n) 1 r.0 n one r.1.below);
+          each = λ i l. with_bit n r.0 i r.1 l (cases_lt i n);
+        },
+      )

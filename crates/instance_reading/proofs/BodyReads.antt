@@ -318,19 +318,22 @@ module _ (cx : Context) where
       subst (λ (r : Match). Reads cx bytes (i + r.len) [] (k ∷ []) r.binds) h.is (record {
         values = refl;
         each = All-cons (IsEntry cx.tokens stop) entry [] tt (All-nil (IsEntry cx.tokens stop));
-        choices = (record {
-          of_type = t;
-          kind = e;
-          number = h.place;
-          known = h.chosen;
-          is_known = h.is_known;
-          makes_type = h.makes_type;
-          offset = i;
-          found = h.found;
-          among = h.among;
-          ends = omega arith;
-          is = ap (λ n. Choice (record { 0 = n }) (record { entries = h.found.binds }) []) number;
-        }, tt);
+        choices = (
+          record {
+            of_type = t;
+            kind = e;
+            number = h.place;
+            known = h.chosen;
+            is_known = h.is_known;
+            makes_type = h.makes_type;
+            offset = i;
+            found = h.found;
+            among = h.among;
+            ends = omega arith;
+            is = ap (λ n. Choice (record { 0 = n }) (record { entries = h.found.binds }) []) number;
+          },
+          tt,
+        );
       })
 
   operand_read : (k : ℕ) → AllRead cx [] (k ∷ []) (operand_results cx k)

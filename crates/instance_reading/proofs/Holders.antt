@@ -60,10 +60,13 @@ module _ (p : Term → Bool) (es : List Equation) where
       let term = one_of (flat_map (λ (e : Equation). filter p e.terms) es) h in
       let found = Contains-flat_map_cases (λ (e : Equation). filter p e.terms) es term.0 term.1 in
       let there = Contains-filter_cases p found.0.terms term.0 found.2 in
-      let one = one_of holders (same_lengths (λ (e : Equation). map (λ t. e) (filter p e.terms)) (λ (e : Equation). filter p e.terms) (λ (e : Equation). length-map {B = Equation} (filter p e.terms) (λ t. e)) es ∙ h) in
-      (found.0, term.0, record {
-        equation = found.1;
-        term = there.0;
-        passes = there.1;
-        only = λ f u m n q. one.2 f (holds f u m n q) ∙ sym (one.2 found.0 (holds found.0 term.0 found.1 there.0 there.1));
-      })
+      let one = one_of holders (same_lengths (λ (e : Equation). map (λ t. e) (filter p e.terms)) (λ (e : Equation). filter p e.terms) (λ (e : Equation). length-map {B = Equation} (filter p e.terms) (λ t. e)) es ∙ h) in (
+        found.0,
+        term.0,
+        record {
+          equation = found.1;
+          term = there.0;
+          passes = there.1;
+          only = λ f u m n q. one.2 f (holds f u m n q) ∙ sym (one.2 found.0 (holds found.0 term.0 found.1 there.0 there.1));
+        },
+      )

@@ -90,8 +90,7 @@ module _ (u : ℕ → ℤ) where
     have_numbers j (k ∷ kinds) os h at =
         let s = split_operands spec location c entries j k kinds os h in
         let here : j + 0 ≡ j = omega arith in
-        subst (HaveNumbers u j (k ∷ kinds)) (sym s.3)
-        (
+        subst (HaveNumbers u j (k ∷ kinds)) (sym s.3) (
           (λ n. sym (ap (λ os. numbers_of os 0) s.3) ∙ at 0 k refl n ∙ ap u here),
           have_numbers (j + 1) kinds s.1 s.2 (λ m kind e n. let same : j + suc m ≡ j + 1 + m = omega arith in sym (ap (λ os. numbers_of os (suc m)) s.3) ∙ at (suc m) kind e n ∙ ap u same),
         )

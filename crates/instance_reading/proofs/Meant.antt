@@ -98,60 +98,68 @@ module _ (spec : Spec) (location : ℕ) (c : Constructor) (readable : IsReadable
     module _ (j : ℕ) (kinds : List OperandKind) (os : List Operand) (rest : OnlyOperands (j + 1) kinds os) where
       with_plain : (f : FieldId) → slice_get c.operands j ≡ Some (Plain f) → (os : List Operand) × OnlyOperands j (Plain f ∷ kinds) os
       with_plain f s =
-          let r = read_at j (Plain f) f s refl in
-          (Num (pos r.value) ∷ os, record {
-            mean = plain r.value r.offset r.there rest.mean;
-            only = λ others h n. (
-                let v = invert_plain spec location c entries j f kinds others h in
-                let numbers = subst (HaveNumbers u j (Plain f ∷ kinds)) v.5 n in
-                let same = one_value entries f v.0 r.value v.1 r.offset one_each v.3 r.there in
-                v.5 ∙ ap (λ os. Num (pos v.0) ∷ os) (rest.only v.2 v.4 numbers.1) ∙ ap (λ n. Num (pos n) ∷ os) same);
-            admitted = rest.admitted;
-            placeless = All-cons HasNoPlace (Num (pos r.value)) os tt rest.placeless;
-            numbers = (λ n. absurd n, rest.numbers);
-          })
+          let r = read_at j (Plain f) f s refl in (
+            Num (pos r.value) ∷ os,
+            record {
+              mean = plain r.value r.offset r.there rest.mean;
+              only = λ others h n. (
+                  let v = invert_plain spec location c entries j f kinds others h in
+                  let numbers = subst (HaveNumbers u j (Plain f ∷ kinds)) v.5 n in
+                  let same = one_value entries f v.0 r.value v.1 r.offset one_each v.3 r.there in
+                  v.5 ∙ ap (λ os. Num (pos v.0) ∷ os) (rest.only v.2 v.4 numbers.1) ∙ ap (λ n. Num (pos n) ∷ os) same);
+              admitted = rest.admitted;
+              placeless = All-cons HasNoPlace (Num (pos r.value)) os tt rest.placeless;
+              numbers = (λ n. absurd n, rest.numbers);
+            },
+          )
 
       with_extended : (f : FieldId) → slice_get c.operands j ≡ Some (Extended f) → (os : List Operand) × OnlyOperands j (Extended f ∷ kinds) os
       with_extended f s =
           let r = read_at j (Extended f) f s refl in
-          let wide = λ (n : ℕ). sign_extended (half_of spec.tokens f.0) (pos n) in
-          (Num (wide r.value) ∷ os, record {
-            mean = extended r.value r.offset r.there rest.mean;
-            only = λ others h n. (
-                let v = invert_extended spec location c entries j f kinds others h in
-                let numbers = subst (HaveNumbers u j (Extended f ∷ kinds)) v.5 n in
-                let same = one_value entries f v.0 r.value v.1 r.offset one_each v.3 r.there in
-                v.5 ∙ ap (λ os. Num (wide v.0) ∷ os) (rest.only v.2 v.4 numbers.1) ∙ ap (λ n. Num (wide n) ∷ os) same);
-            admitted = rest.admitted;
-            placeless = All-cons HasNoPlace (Num (wide r.value)) os tt rest.placeless;
-            numbers = (λ n. absurd n, rest.numbers);
-          })
+          let wide = λ (n : ℕ). sign_extended (half_of spec.tokens f.0) (pos n) in (
+            Num (wide r.value) ∷ os,
+            record {
+              mean = extended r.value r.offset r.there rest.mean;
+              only = λ others h n. (
+                  let v = invert_extended spec location c entries j f kinds others h in
+                  let numbers = subst (HaveNumbers u j (Extended f ∷ kinds)) v.5 n in
+                  let same = one_value entries f v.0 r.value v.1 r.offset one_each v.3 r.there in
+                  v.5 ∙ ap (λ os. Num (wide v.0) ∷ os) (rest.only v.2 v.4 numbers.1) ∙ ap (λ n. Num (wide n) ∷ os) same);
+              admitted = rest.admitted;
+              placeless = All-cons HasNoPlace (Num (wide r.value)) os tt rest.placeless;
+              numbers = (λ n. absurd n, rest.numbers);
+            },
+          )
 
       with_whole : slice_get c.operands j ≡ Some Whole → (os : List Operand) × OnlyOperands j (Whole ∷ kinds) os
-      with_whole s =
-          (Num (u j) ∷ os, record {
-            mean = whole (solution.range j Whole s tt) rest.mean;
-            only = λ others h n. (
-                let v = invert_whole spec location c entries j kinds others h in
-                let numbers = subst (HaveNumbers u j (Whole ∷ kinds)) v.4 n in
-                v.4 ∙ ap (λ os. Num v.0 ∷ os) (rest.only v.1 v.3 numbers.1) ∙ ap (λ n. Num n ∷ os) (numbers.0 tt));
-            admitted = rest.admitted;
-            placeless = All-cons HasNoPlace (Num (u j)) os tt rest.placeless;
-            numbers = (λ n. refl, rest.numbers);
-          })
+      with_whole s = (
+        Num (u j) ∷ os,
+        record {
+          mean = whole (solution.range j Whole s tt) rest.mean;
+          only = λ others h n. (
+              let v = invert_whole spec location c entries j kinds others h in
+              let numbers = subst (HaveNumbers u j (Whole ∷ kinds)) v.4 n in
+              v.4 ∙ ap (λ os. Num v.0 ∷ os) (rest.only v.1 v.3 numbers.1) ∙ ap (λ n. Num n ∷ os) (numbers.0 tt));
+          admitted = rest.admitted;
+          placeless = All-cons HasNoPlace (Num (u j)) os tt rest.placeless;
+          numbers = (λ n. refl, rest.numbers);
+        },
+      )
 
       with_sliced : slice_get c.operands j ≡ Some Sliced → (os : List Operand) × OnlyOperands j (Sliced ∷ kinds) os
-      with_sliced s =
-          (Num (u j) ∷ os, record {
-            mean = sliced (solution.range j Sliced s tt) rest.mean;
-            only = λ others h n. (
-                let v = invert_sliced spec location c entries j kinds others h in
-                let numbers = subst (HaveNumbers u j (Sliced ∷ kinds)) v.4 n in
-                v.4 ∙ ap (λ os. Num v.0 ∷ os) (rest.only v.1 v.3 numbers.1) ∙ ap (λ n. Num n ∷ os) (numbers.0 tt));
-            admitted = rest.admitted;
-            placeless = All-cons HasNoPlace (Num (u j)) os tt rest.placeless;
-            numbers = (λ n. refl, rest.numbers);
-          })
+      with_sliced s = (
+        Num (u j) ∷ os,
+        record {
+          mean = sliced (solution.range j Sliced s tt) rest.mean;
+          only = λ others h n. (
+              let v = invert_sliced spec location c entries j kinds others h in
+              let numbers = subst (HaveNumbers u j (Sliced ∷ kinds)) v.4 n in
+              v.4 ∙ ap (λ os. Num v.0 ∷ os) (rest.only v.1 v.3 numbers.1) ∙ ap (λ n. Num n ∷ os) (numbers.0 tt));
+          admitted = rest.admitted;
+          placeless = All-cons HasNoPlace (Num (u j)) os tt rest.placeless;
+          numbers = (λ n. refl, rest.numbers);
+        },
+      )
 
       -- an instance, for its choice
       module _ (t : TypeId) (s : slice_get c.operands j ≡ Some (Typed t)) (entry : RawEntry) (chosen : choice_of c entries j ≡ Some entry) (h : IsChoiceFor around bytes stop j entry)
@@ -230,7 +238,7 @@ module _ (spec : Spec) (location : ℕ) (c : Constructor) (readable : IsReadable
       only_made other e (means d s h es) =
           let same : d ≡ c = some_constructor d c (sym s ∙ ap (λ (k : ConstructorId). slice_get spec.constructors k.0) e ∙ is_c) in
           let operands = only_operands other.operands (subst (λ (d : Constructor). OperandsMean spec location d entries 0 d.operands other.operands) same h)
-              (subst (λ (d : Constructor). EachSatisfied (record { halves = half_of spec.tokens; operands = numbers_of other.operands; labels = labels_at location entries }) (fields_in entries) d.equations) same es) in
+          (subst (λ (d : Constructor). EachSatisfied (record { halves = half_of spec.tokens; operands = numbers_of other.operands; labels = labels_at location entries }) (fields_in entries) d.equations) same es) in
           ap (λ k. let i : Instance = record { constructor = k; operands = other.operands } in i) e ∙ ap (λ os. let i : Instance = record { constructor = k; operands = os } in i) operands
 
       is_admitted : admits spec made ≡ true

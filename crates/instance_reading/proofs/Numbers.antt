@@ -296,7 +296,7 @@ module _ (tokens : Tokens) (c : Constructor) (linear : IsLinear tokens c) (solve
       bits_of_other w z bit is all l =
           let p = bit_is bit l in
           let read : slice_of p.0.lo p.0.hi (w k) ≡ p.0.value =
-              sym (ap (atom_value (over tokens labels v w) v) p.0.is) ∙ value_from_holds tokens labels v w p.0.equation p.0.target p.0.value p.0.given_is (holds_at w p.0.equation p.0.member all) in
+          sym (ap (atom_value (over tokens labels v w) v) p.0.is) ∙ value_from_holds tokens labels v w p.0.equation p.0.target p.0.value p.0.given_is (holds_at w p.0.equation p.0.member all) in
           let value = slice_value p.0.equation p.0.target p.0.value p.0.lo p.0.hi p.0.given_is p.0.is in
           let same : bits_of p.0.lo p.0.hi z ≡ natural p.0.value = same_natural _ _ (ap (slice_of p.0.lo p.0.hi) (sym is) ∙ read ∙ value.0) in
           sym (bit_of_slice p.0.lo p.0.hi z bit p.0.low p.0.high) ∙ ap (λ n. bit_at n (bit - p.0.lo)) same ∙ sym p.1
@@ -355,8 +355,11 @@ module _ (tokens : Tokens) (c : Constructor) (linear : IsLinear tokens c) (solve
         holds_from_value tokens labels v w e g.0 g.1 g.2 (target_has g.0 g.1 g.0.atom g.2 refl there.1 (atom_of e g.0 m there.0))
 
   pub only_numbers : (u : ℕ → ℤ) × AreOnlyNumbers tokens c labels v u
-  only_numbers = (number, record {
-    range = λ k kind s n. (number_is k kind s n).range;
-    holds = λ w alike i d l. equation_holds w alike (get_or c.equations i d) (Contains-get_or c.equations i d l);
-    only = λ w range all k kind s n. (number_is k kind s n).only w (range k kind s n) all;
-  })
+  only_numbers = (
+    number,
+    record {
+      range = λ k kind s n. (number_is k kind s n).range;
+      holds = λ w alike i d l. equation_holds w alike (get_or c.equations i d) (Contains-get_or c.equations i d l);
+      only = λ w range all k kind s n. (number_is k kind s n).only w (range k kind s n) all;
+    },
+  )
