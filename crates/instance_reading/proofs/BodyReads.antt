@@ -1,8 +1,7 @@
 -- What a result of a body binds: a value for each bare field, and a choice for each operand that stands in the body, in their order.
-use Rattle.std.proofs.Common.{ℕ, zero, suc, ◌+◌, ◌-◌, ◌*◌, ◌^◌, ◌≡◌, ◌<◌, ◌≤◌, ◌⊎◌, inl, inr, ⊎_elim, max, Bool, true, false, cond, List, [], ◌∷◌, ◌++◌, length, map, filter, All, Contains, slice_get, Option, Some, None, option_and_then, refl, sym, ap, ◌∙◌, subst, arith}
-use Rattle.std.specs.List.{filter_map, flat_map, fold, AllZip}
+use Rattle.std.proofs.Common.{ℕ, suc, ◌+◌, ◌-◌, ◌^◌, ◌≡◌, ◌<◌, ◌≤◌, ⊎_elim, max, Bool, true, false, cond, List, [], ◌∷◌, ◌++◌, map, filter, All, Contains, slice_get, Option, Some, None, option_and_then, refl, sym, ap, ◌∙◌, subst, arith}
+use Rattle.std.specs.List.{filter_map, fold, AllZip}
 use Rattle.std.specs.Option.{option_map, option_map_or}
-use Rattle.std.proofs.lemmas.Bool.{cases_Bool, cond-true, cond-false}
 use Rattle.std.proofs.lemmas.List.{append_assoc, append-nil}
 use Rattle.std.proofs.lemmas.List.Elements.{All-nil, All-cons, All-append, All-weaker, Contains-append_cases, filter_map-append, filter-append}
 use Rattle.std.proofs.lemmas.Nat.{pow-add}
@@ -23,11 +22,10 @@ use Rattle.sled_model.specs.declared.pattern.Pattern.{Pattern, Row_of-Pattern, e
 use Rattle.sled_model.specs.declared.pattern.Pattern.TheVariants.{Token, Limit, Bind, Operand, Label', Both', Either', Chain', Loose', Apply', Empty}
 use Rattle.sled_model.specs.Leaves.{AllLeaves, AllLeavesOfRow, IsNoApplication}
 use Rattle.sled_model.specs.Measures.{width_at}
-use Rattle.sled_model.specs.Results.{Meaning, Known, Context, results, row_meanings, results_from, one_match, has_relation, class_results, limit_results, bind_results, operand_results, kind_results, choices_from, choice_match, makes, either, chain, chain_match, both, both_match, agrees, fold_meanings, boxed_meaning, no_results, label_match, loose_match, is_choice, operands_in, operands_in_row}
+use Rattle.sled_model.specs.Results.{Meaning, Known, Context, results, row_meanings, results_from, one_match, has_relation, class_results, limit_results, bind_results, operand_results, kind_results, choices_from, choice_match, makes, either, chain, chain_match, both, both_match, agrees, fold_meanings, boxed_meaning, label_match, loose_match, is_choice, operands_in, operands_in_row}
 use Rattle.sled_model.specs.SolvingOrder.{bare_fields, row_fields}
-use Rattle.sled_model.specs.Specs.{IsBodyLeaf}
 use Rattle.sled_model.proofs.Members.{Contains-nil, Contains-map_cases, Contains-flat_map_cases, Contains-filter_cases}
-use Rattle.match_meaning.specs.Readable.{SidesReadNothing, RowSidesReadNothing, RowReadsNothing}
+use Rattle.match_meaning.specs.Readable.{SidesReadNothing, RowSidesReadNothing}
 use Rattle.instance_reading.proofs.Bits.{slice_below}
 use Rattle.instance_reading.proofs.Holders.{contains_one}
 use mathlib.Core.Former.{one_more, none_left}

@@ -1,6 +1,5 @@
 -- What it takes that the entries mean operands, kind by kind.
-use Rattle.std.proofs.Common.{ℕ, zero, suc, ◌+◌, ◌≡◌, List, [], ◌∷◌, Contains, slice_get, Option, Some, None, ℤ, pos, refl, sym, ap, ◌∙◌, subst, arith}
-use Rattle.std.specs.Option.{option_map_or}
+use Rattle.std.proofs.Common.{ℕ, zero, suc, ◌+◌, ◌≡◌, List, [], ◌∷◌, Contains, slice_get, Some, ℤ, pos, refl, sym, ap, ◌∙◌, subst, arith}
 use Rattle.token_bits.specs.declared.tokens.FieldId.{FieldId}
 use Rattle.sled_model.specs.declared.constructor.TypeId.{TypeId}
 use Rattle.sled_model.specs.declared.constructor.OperandKind.{OperandKind}

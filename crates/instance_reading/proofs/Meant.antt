@@ -1,5 +1,5 @@
 -- The one instance that the entries of a body mean, where each choice among them means one.
-use Rattle.std.proofs.Common.{ℕ, zero, suc, ◌+◌, ◌^◌, ◌≡◌, ◌≢◌, ◌<◌, ◌≤◌, Bool, true, false, List, [], ◌∷◌, filter, All, AllPairs, Contains, slice_get, Option, Some, None, ℤ, pos, refl, sym, ap, ◌∙◌, subst, arith}
+use Rattle.std.proofs.Common.{ℕ, zero, suc, ◌+◌, ◌≡◌, ◌≢◌, Bool, true, false, List, [], ◌∷◌, All, AllPairs, Contains, slice_get, Option, Some, None, ℤ, pos, refl, sym, ap, ◌∙◌, subst, arith}
 use Rattle.std.specs.Prelude.{◌&&◌}
 use Rattle.std.specs.List.{filter_map, cons_option}
 use Rattle.std.specs.Option.{option_map, option_map_or}
@@ -18,7 +18,7 @@ use Rattle.sled_model.specs.declared.raw.RawEntry.TheVariants.{Choice}
 use Rattle.sled_model.specs.declared.spec.Spec.{Spec}
 use Rattle.sled_model.specs.Equations.{half_of, sign_extended, EachSatisfied}
 use Rattle.sled_model.specs.Instances.{Means, means, OperandsMean, no_more, plain, extended, typed, whole, sliced, numbers_of, fields_in, labels_at}
-use Rattle.sled_model.specs.Kinds.{is_of, type_in, kinds_of, is_of_kind, are_of_kinds, admits}
+use Rattle.sled_model.specs.Kinds.{is_of, is_of_kind, are_of_kinds, admits}
 use Rattle.sled_model.specs.Linear.{kind_field}
 use Rattle.sled_model.specs.Results.{Known, Context, makes, choice_of, operands_in}
 use Rattle.sled_model.specs.SolvingOrder.{bare_fields, is_among}
@@ -28,7 +28,7 @@ use Rattle.asm_text.specs.Writable.{HasNoPlace}
 use Rattle.asm_text.proofs.WritableLaws.{HasNoPlace-Sub}
 use Rattle.match_meaning.specs.Readable.{IsReadable}
 use Rattle.instance_reading.specs.Reading.{IsMeant, IsOnlyMeant}
-use Rattle.instance_reading.proofs.Numbers.{IsNumbered, IsInRange, AreAlike, AreInRange, AreOnlyNumbers}
+use Rattle.instance_reading.proofs.Numbers.{AreAlike, AreOnlyNumbers}
 use Rattle.instance_reading.proofs.BodyReads.{read_field, IsChoiceFor, Reads}
 use Rattle.instance_reading.proofs.Entries.{one_value, IsRead, read_of, choice_at}
 use Rattle.instance_reading.proofs.Choices.{choice_same}

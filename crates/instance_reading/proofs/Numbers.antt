@@ -1,5 +1,5 @@
 -- The whole and the sliced operands that values of fields and labels give.
-use Rattle.std.proofs.Common.{ℕ, zero, suc, ◌+◌, ◌-◌, ◌^◌, ◌≡◌, ◌==◌, ◌<◌, ◌≤◌, ◌⊎◌, inl, inr, nat_le, Bool, true, false, ◌&&◌, List, [], ◌∷◌, length, filter, get_or, All, Contains, slice_get, Option, Some, None, ℤ, pos, negsuc, ◌+ℤ◌, ◌-ℤ◌, ◌*ℤ◌, ◌≤ℤ◌, ◌<ℤ◌, refl, sym, ap, ◌∙◌, subst, arith}
+use Rattle.std.proofs.Common.{ℕ, ◌+◌, ◌-◌, ◌^◌, ◌≡◌, ◌==◌, ◌<◌, ◌≤◌, ◌⊎◌, inl, inr, nat_le, Bool, true, false, ◌&&◌, [], get_or, Contains, slice_get, Option, Some, None, ℤ, pos, negsuc, ◌≤ℤ◌, ◌<ℤ◌, refl, sym, ap, ◌∙◌, subst, arith}
 use Rattle.std.specs.Int.{bit_at}
 use Rattle.std.proofs.lemmas.Int.{ints}
 use Rattle.std.proofs.lemmas.Bool.{cases_lt}
@@ -16,11 +16,11 @@ use Rattle.sled_model.specs.declared.constructor.Constructor.{Constructor}
 use Rattle.sled_model.specs.declared.constructor.OperandKind.{OperandKind}
 use Rattle.sled_model.specs.declared.constructor.OperandKind.TheVariants.{Plain, Extended, Typed, Whole, Sliced}
 use Rattle.sled_model.specs.Equations.{half_of, atom_value, slice_of, IsSatisfied, EachSatisfied, IsBetween, AreFieldValues}
-use Rattle.sled_model.specs.Solved.{is_operand_atom, operand_terms, IsTarget, least_value, value_limit, AreLabelValues, is_whole_of, is_bit_of, GivesOperand, IsSolved}
+use Rattle.sled_model.specs.Solved.{is_operand_atom, IsTarget, least_value, value_limit, AreLabelValues, is_whole_of, is_bit_of, GivesOperand, IsSolved}
 use Rattle.sled_model.specs.Linear.{IsAtomOf, IsTermOf, IsEquationOf, IsLinear}
 use Rattle.sled_model.specs.Instances.{IsWholeNumber, IsSlicedNumber}
 use Rattle.sled_model.proofs.Members.{Contains-here, Contains-filter_cases}
-use Rattle.instance_reading.proofs.Bits.{bit_of_slice, slice_below, slice_is, HasBits, number_from}
+use Rattle.instance_reading.proofs.Bits.{bit_of_slice, slice_is, HasBits, number_from}
 use Rattle.instance_reading.proofs.Targets.{over, IsGivenBy, given_by, one_target, one_value, value_from_holds, holds_from_value}
 use Rattle.instance_reading.proofs.Holders.{Contains-filter, contains_one, IsHolder, holder_of}
 

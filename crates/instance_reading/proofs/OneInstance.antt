@@ -1,7 +1,6 @@
 -- Each result of a constructor's body means one instance at each location.
-use Rattle.std.proofs.Common.{ℕ, zero, suc, ◌+◌, ◌^◌, ◌≡◌, ◌<◌, ◌≤◌, List, [], slice_get, Contains, Option, Some, refl, sym, ap, ◌∙◌, subst, arith}
+use Rattle.std.proofs.Common.{ℕ, zero, suc, ◌+◌, ◌^◌, ◌≡◌, ◌<◌, List, [], slice_get, Contains, Some, refl, subst, arith}
 use Rattle.token_bits.proofs.Sound.{All-slice_get}
-use Rattle.sled_model.specs.declared.constructor.Constructor.{Constructor}
 use Rattle.sled_model.specs.declared.constructor.ConstructorId.{ConstructorId}
 use Rattle.sled_model.specs.declared.instance.Instance.{Instance}
 use Rattle.sled_model.specs.declared.raw.RawEntry.{RawEntry}

@@ -1,5 +1,5 @@
 -- The value that an equation gives its target, from the values of fields and labels alone.
-use Rattle.std.proofs.Common.{ℕ, ◌≡◌, ◌⊎◌, inl, inr, Bool, true, false, not, cond, List, [], ◌∷◌, filter, Contains, ℤ, pos, ◌+ℤ◌, ◌-ℤ◌, ◌*ℤ◌, refl, sym, ap, ◌∙◌, subst, arith}
+use Rattle.std.proofs.Common.{ℕ, ◌≡◌, ◌⊎◌, inl, inr, Bool, true, false, not, cond, List, [], ◌∷◌, filter, ℤ, pos, ◌+ℤ◌, ◌-ℤ◌, ◌*ℤ◌, refl, sym, ap, ◌∙◌, subst, arith}
 use Rattle.std.proofs.lemmas.Int.{ints}
 use Rattle.token_bits.specs.declared.tokens.Tokens.{Tokens}
 use Rattle.sled_model.specs.declared.constructor.Atom.{Atom}
@@ -8,7 +8,7 @@ use Rattle.sled_model.specs.declared.constructor.Term.{Term}
 use Rattle.sled_model.specs.declared.constructor.Equation.{Equation}
 use Rattle.sled_model.specs.Equations.{Setting, half_of, atom_value, sum_of, IsSatisfied, IsBetween, AreFieldValues}
 use Rattle.sled_model.specs.Solutions.{setting_of}
-use Rattle.sled_model.specs.Solved.{is_operand_atom, operand_terms, given_terms, IsTarget, least_value, value_limit, AreLabelValues, GivesOperand}
+use Rattle.sled_model.specs.Solved.{is_operand_atom, given_terms, IsTarget, least_value, value_limit, AreLabelValues, GivesOperand}
 
 -- ---- sums
 

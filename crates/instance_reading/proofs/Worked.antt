@@ -1,25 +1,21 @@
 -- The small description can be read, and a byte means one instance in it.
-use Rattle.std.proofs.Common.{ℕ, zero, suc, ◌+◌, ◌^◌, ◌≡◌, ◌≢◌, ◌<◌, ◌≤◌, inl, true, false, List, [], ◌∷◌, length, filter, All, AllPairs, Contains, slice_get, Option, Some, None, IsSome, ℤ, pos, refl, sym, ap, ◌∙◌, subst, arith}
-use Rattle.std.specs.List.{filter_map}
+use Rattle.std.proofs.Common.{ℕ, zero, suc, ◌^◌, ◌≡◌, ◌≢◌, ◌<◌, ◌≤◌, inl, true, false, List, [], ◌∷◌, All, AllPairs, slice_get, Option, Some, None, IsSome, refl, sym, ap, subst, arith}
 use Rattle.std.proofs.lemmas.List.Elements.{All-nil, All-cons}
 use Rattle.token_bits.specs.Tokens.{IsWidth, IsFieldOf, AreTokens, token_len, value_at}
 use Rattle.token_bits.specs.declared.tokens.Class.{Class}
-use Rattle.sled_model.specs.declared.constructor.Constructor.{Constructor}
 use Rattle.sled_model.specs.declared.constructor.TypeId.{TypeId}
-use Rattle.sled_model.specs.declared.constructor.Equation.{Equation}
 use Rattle.sled_model.specs.declared.constructor.OperandKind.{OperandKind}
-use Rattle.sled_model.specs.declared.constructor.OperandKind.TheVariants.{Plain, Extended, Typed, Whole, Sliced}
-use Rattle.sled_model.specs.declared.instance.Instance.{Instance}
+use Rattle.sled_model.specs.declared.constructor.OperandKind.TheVariants.{Plain, Typed}
 use Rattle.sled_model.specs.declared.raw.Match.{Match}
 use Rattle.sled_model.specs.declared.raw.RawEntry.TheVariants.{Value}
 use Rattle.sled_model.specs.Equations.{IsSatisfied}
-use Rattle.sled_model.specs.Instances.{Means, means, plain, no_more, first_or_zero, numbers_of, labels_at, fields_in}
+use Rattle.sled_model.specs.Instances.{means, plain, no_more, first_or_zero, numbers_of, labels_at, fields_in}
 use Rattle.sled_model.specs.Linear.{IsEquationOf, IsLinear}
-use Rattle.sled_model.specs.Results.{Known, known_from, bind_results, results_from, one_match}
+use Rattle.sled_model.specs.Results.{Known, bind_results, results_from, one_match}
 use Rattle.sled_model.specs.Solutions.{setting_of}
 use Rattle.sled_model.specs.Solved.{GivesOperand, IsHeldOnce, IsSolved}
 use Rattle.sled_model.specs.SolvingOrder.{IsDetermined, bare_fields, is_among}
-use Rattle.sled_model.specs.Specs.{IsKnownKind, IsConstructorOf, IsSpec, names_of, constructor_names_of}
+use Rattle.sled_model.specs.Specs.{IsKnownKind, IsConstructorOf, IsSpec}
 use Rattle.match_meaning.specs.Readable.{IsReadable, HasShortBody, IsReadableSpec}
 use Rattle.instance_reading.specs.Reading.{IsBodyResult, IsMeant, IsOnlyMeant}
 use Rattle.instance_reading.specs.Example.{y, tokens, upper_half, description, e, three_read, e_of_three, ExampleRow}
