@@ -1,0 +1,27 @@
+-- An entry that is a choice is of its constructor and entries alone.
+use Rattle.std.proofs.Common.{◌≡◌, List, [], ◌∷◌, ap, sym, ◌∙◌}
+use Rattle.sled_model.specs.declared.constructor.ConstructorId.{ConstructorId}
+use Rattle.sled_model.specs.declared.raw.RawEntry.{RawEntry, items-the_row-RawEntry, items_hidden-the_row-RawEntry-0}
+use Rattle.sled_model.specs.declared.raw.RawEntry.TheVariants.{Choice, Choice'}
+
+taken : RawEntry → List (ConstructorId × List RawEntry)
+taken (Choice' k s inner arguments) = (k, items-the_row-RawEntry _ inner) ∷ []
+taken _ = []
+
+taken_constructor : ConstructorId → List (ConstructorId × List RawEntry) → ConstructorId
+taken_constructor k [] = k
+taken_constructor k (t ∷ ts) = t.0
+
+taken_entries : List (ConstructorId × List RawEntry) → List RawEntry
+taken_entries [] = []
+taken_entries (t ∷ ts) = t.1
+
+taken_choice : (k : ConstructorId) (inner : List RawEntry) → taken (Choice k (record { entries = inner }) []) ≡ (k, inner) ∷ []
+unfolding taken
+taken_choice k inner = ap (λ es. let p : ConstructorId × List RawEntry = (k, es) in p ∷ []) (items_hidden-the_row-RawEntry-0 inner)
+
+pub choice_same : (k j : ConstructorId) (inner outer : List RawEntry) → Choice k (record { entries = inner }) [] ≡ Choice j (record { entries = outer }) [] → (k ≡ j) × (inner ≡ outer)
+unfolding taken_constructor taken_entries
+choice_same k j inner outer e =
+    let same : ((k, inner) ∷ []) ≡ ((j, outer) ∷ []) = sym (taken_choice k inner) ∙ ap taken e ∙ taken_choice j outer in
+    (ap (taken_constructor k) same, ap taken_entries same)

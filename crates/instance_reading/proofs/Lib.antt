@@ -1,0 +1,12 @@
+pub mod Bits
+pub mod Targets
+pub mod Holders
+pub mod Numbers
+pub mod BodyReads
+pub mod Entries
+pub mod Choices
+pub mod Declared
+pub mod Inversions
+pub mod Meant
+pub mod OneInstance
+pub mod Worked
