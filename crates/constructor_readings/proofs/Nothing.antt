@@ -8,7 +8,7 @@ use Rattle.sled_model.specs.declared.pattern.Pattern.TheVariants.{Token, Limit, 
 use Rattle.sled_model.specs.Leaves.{AllLeaves, AllLeavesOfRow, NamesNoConstructor}
 use Rattle.sled_model.specs.Results.{operands_in, operands_in_row}
 use Rattle.sled_model.specs.SolvingOrder.{bare_fields, row_fields}
-use Rattle.constructor_readings.specs.Readable.{RowReadsNothing, SidesReadNothing, RowSidesReadNothing}
+use Rattle.match_meaning.specs.Readable.{RowReadsNothing, SidesReadNothing, RowSidesReadNothing}
 
 abbrev pub ReadsNothing : Pattern → Type 0
 ReadsNothing p = (bare_fields p ≡ []) × (operands_in p ≡ [])

@@ -18,7 +18,7 @@ use Rattle.sled_model.specs.Linear.{IsLinear, IsAtomOf, IsTermOf, IsEquationOf}
 use Rattle.sled_model.specs.Solved.{IsSolved, GivesOperand, IsGivenInRange, given_terms, is_operand_atom}
 use Rattle.sled_model.specs.SolvingOrder.{bare_fields, is_among}
 use Rattle.sled_model.proofs.LeafLemmas.{Grows, known_below}
-use Rattle.constructor_readings.specs.Readable.{IsReadable}
+use Rattle.match_meaning.specs.Readable.{IsReadable}
 
 -- ---- lists
 
@@ -31,7 +31,7 @@ among_all P (g ∷ fs) f h among = ⊎_elim
     (or_cases _ (is_among fs f) among)
 
 -- what both facts give of each, they give of all
-all_by_both : {A : Type 0} (P Q R : A → Type 0) → ((x : A) → P x → Q x → R x) → (xs : List A) → All P xs → All Q xs → All R xs
+pub all_by_both : {A : Type 0} (P Q R : A → Type 0) → ((x : A) → P x → Q x → R x) → (xs : List A) → All P xs → All Q xs → All R xs
 all_by_both P Q R both [] h g = All-nil R
 all_by_both P Q R both (x ∷ xs) h g =
     All-cons R x xs (both x (All-head P x xs h) (All-head Q x xs g)) (all_by_both P Q R both xs (All-tail P x xs h) (All-tail Q x xs g))
@@ -91,11 +91,14 @@ module _ (t u : Tokens) (n : ℕ) (grows : Grows t u n n) where
 
   module _ (c : Constructor) (linear : IsLinear t c) where
     gives_kept : (e : Equation) → IsEquationOf c e → GivesOperand t e → GivesOperand u e
-    gives_kept e is h =
-        (h.0, h.1, λ setting fields x halves values labels gives.
-        h.2 (old_setting setting) (old_fields fields) x refl (old_values fields values) labels
-        (subst (λ s. (h.0.coefficient *ℤ x) +ℤ (s +ℤ e.rest) ≡ pos 0)
-        (same_sum c linear setting fields halves (given_terms e) (All-filter _ (IsTermOf c) e.terms is.terms)) gives))
+    gives_kept e is h = (
+      h.0,
+      h.1,
+      λ setting fields x halves values labels gives.
+          h.2 (old_setting setting) (old_fields fields) x refl (old_values fields values) labels
+          (subst (λ s. (h.0.coefficient *ℤ x) +ℤ (s +ℤ e.rest) ≡ pos 0)
+          (same_sum c linear setting fields halves (given_terms e) (All-filter _ (IsTermOf c) e.terms is.terms)) gives),
+    )
 
     solved_kept : IsSolved t c → IsSolved u c
     solved_kept h = record {
