@@ -1,0 +1,11 @@
+pub mod Nothing
+pub mod SolvedGrown
+pub mod Short
+pub mod Grown
+pub mod TreeReadings
+pub mod WordReadings
+pub mod TypedStands
+pub mod TypesApart
+pub mod MadeReadings
+pub mod MadeFits
+pub mod Kept
