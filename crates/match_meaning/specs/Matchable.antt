@@ -16,6 +16,6 @@ pub record IsMatchableArm (spec : Spec) (arm : Arm) : Type 0 where
 
 -- the instances of the description can be read, each arm can be matched, and a skip takes 1 to 32 bytes
 pub record IsMatchable (spec : Spec) (statement : Statement) : Type 0 where
-  pub spec : IsReadableSpec spec
+  pub readable : IsReadableSpec spec
   pub arms : All (IsMatchableArm spec) statement.arms
   pub skip : IfSome statement.skip IsMatchLength

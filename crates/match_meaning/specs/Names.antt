@@ -8,8 +8,8 @@ use Rattle.sled_model.specs.declared.pattern.Argument.{Argument}
 use Rattle.sled_model.specs.declared.pattern.Argument.TheVariants.{Name, Inner'}
 use Rattle.sled_model.specs.declared.pattern.Pattern.{Pattern, Row_of-Pattern, end_of-Pattern, more_of-Pattern, Row_of-Argument, end_of-Argument, more_of-Argument}
 use Rattle.sled_model.specs.declared.pattern.Pattern.TheVariants.{Apply, Apply'}
-use Rattle.sled_model.specs.declared.raw.RawEntry.{RawEntry}
-use Rattle.sled_model.specs.declared.raw.RawEntry.TheVariants.{Value, Mark, Choice}
+use Rattle.sled_model.specs.declared.raw.RawEntry.{RawEntry, items-the_row-RawEntry}
+use Rattle.sled_model.specs.declared.raw.RawEntry.TheVariants.{Value, Mark, Choice'}
 use Rattle.sled_model.specs.declared.spec.Spec.{Spec}
 use Rattle.sled_model.specs.First.{is_named}
 use Rattle.sled_model.specs.Instances.{Means}
@@ -59,8 +59,8 @@ argument_value k arguments operands = named_in k operands (Apply (record { 0 = 0
 abbrev pub Gives : Spec → ℕ → List ℕ → ℕ → RawEntry → Option Operand → Type 0
 Gives spec location name k (Value f value at) given = given ≡ (if is_named spec f name then Some (Num (pos value)) else None)
 Gives spec location name k (Mark label at) given = given ≡ (if label == k then Some (Num (pos (location + at))) else None)
-Gives spec location name k (Choice c inner arguments) given =
-    (i : Instance) × (i.constructor ≡ c) × Means spec location inner.entries i × (given ≡ argument_value k arguments i.operands)
+Gives spec location name k (Choice' c s inner arguments) given =
+    (i : Instance) × (i.constructor ≡ c) × Means spec location (items-the_row-RawEntry _ inner) i × (given ≡ argument_value k arguments i.operands)
 
 -- the value that was given, or else one that a later entry gives
 abbrev pub IsGivenOr : Option Operand → (Operand → Type 0) → Operand → Type 0

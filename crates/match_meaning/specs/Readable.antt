@@ -11,7 +11,7 @@ use Rattle.sled_model.specs.declared.spec.Spec.{Spec}
 use Rattle.sled_model.specs.Linear.{IsLinear}
 use Rattle.sled_model.specs.Results.{Known, known_from, operands_in, operands_in_row}
 use Rattle.sled_model.specs.Solved.{IsSolved}
-use Rattle.sled_model.specs.SolvingOrder.{IsDetermined, bare_fields, row_fields, is_among}
+use Rattle.sled_model.specs.SolvingOrder.{IsDetermined, row_fields, is_among}
 use Rattle.sled_model.specs.Specs.{IsSpec}
 
 -- no field stands bare in the patterns, and no operand stands in them
@@ -47,6 +47,6 @@ HasShortBody c = (bytes : List ℕ) (i : ℕ) → All (λ (m : Match). m.len ≤
 
 -- the description is one, each of its constructors can be read, and has a short body
 pub record IsReadableSpec (spec : Spec) : Type 0 where
-  pub spec : IsSpec spec
+  pub is_spec : IsSpec spec
   pub constructors : All (IsReadable spec.tokens) spec.constructors
   pub short : All HasShortBody (known_from spec.tokens [] spec.constructors)
