@@ -1,0 +1,126 @@
+-- What the cases of all arms tell, and the first of it.
+use Rattle.std.proofs.Common.{◌≡◌, ℕ, zero, suc, ◌+◌, ◌<◌, ◌≤◌, Bool, true, false, cond, List, [], ◌∷◌, ◌++◌, map, filter, length, replicate, slice_get, Option, Some, None, refl, sym, ap, ◌∙◌, subst, append_assoc, arith}
+use Rattle.std.specs.List.{position_from}
+use Rattle.std.specs.Option.{option_map}
+use Rattle.std.proofs.lemmas.List.{map-append}
+use Rattle.token_bits.specs.declared.tokens.Tokens.{Tokens}
+use Rattle.sled_model.specs.declared.raw.Match.{Match}
+use Rattle.sled_model.specs.declared.spec.Spec.{Spec}
+use Rattle.sled_model.specs.declared.statement.Arm.{Arm}
+use Rattle.sled_model.specs.Results.{arm_results}
+use Rattle.sled_model.specs.First.{first_from, first_or}
+use Rattle.decision_tree.specs.Graph as graph
+use Rattle.pattern_normal.specs.declared.case.Case.{Case}
+use Rattle.pattern_normal.specs.Alternatives.{IsBytes}
+use Rattle.pattern_normal.specs.Cases.{is_met, told, told_by_met, binds_and_len}
+use Rattle.arm_matching.specs.Matcher.{Told, numbered, told_by_arm, told_by_arms, told_beside, bits_of, AreCasesOf, AreCasesOfArms}
+
+-- ---- the arms
+
+-- the first result, without the mark loose
+pub first_is_told : (spec : Spec) (window : List ℕ) (k : ℕ) (arms : List Arm) → option_map numbered (first_from k spec arms window) ≡ slice_get (told_by_arms spec window k arms) 0
+first_is_told spec window k [] = refl
+first_is_told spec window k (arm ∷ arms) = by_results (arm_results spec arm window 0)
+  where
+    by_results : (found : List Match) → option_map numbered (first_or k found (first_from (k + 1) spec arms window))
+        ≡ slice_get (map (λ t. (k, t)) (map binds_and_len found) ++ told_by_arms spec window (k + 1) arms) 0
+    by_results [] = first_is_told spec window (k + 1) arms
+    by_results (a ∷ more) = refl
+
+-- one arm more
+pub arms_pushed : (spec : Spec) (window : List ℕ) (k n : ℕ) (arms : List Arm) (arm : Arm) → n ≡ k + length arms
+    → told_by_arms spec window k (arms ++ arm ∷ []) ≡ told_by_arms spec window k arms ++ map (λ t. (n, t)) (told_by_arm spec window arm)
+arms_pushed spec window k n [] arm is =
+    let same : k ≡ n = omega arith in ap (λ (j : ℕ). map (λ t. (j, t)) (told_by_arm spec window arm) ++ []) same ∙ append_nil (map (λ t. (n, t)) (told_by_arm spec window arm))
+  where
+    append_nil : (xs : List (ℕ × Told)) → xs ++ [] ≡ xs
+    append_nil [] = refl
+    append_nil (x ∷ xs) = ap (λ ys. x ∷ ys) (append_nil xs)
+arms_pushed spec window k n (a ∷ arms) arm is =
+    ap (λ rest. map (λ t. (k, t)) (told_by_arm spec window a) ++ rest) (arms_pushed spec window (k + 1) n arms arm (omega arith))
+    ∙ sym (append_assoc {a = map (λ t. (k, t)) (told_by_arm spec window a)} {b = told_by_arms spec window (k + 1) arms} {c = map (λ t. (n, t)) (told_by_arm spec window arm)})
+
+-- ---- the cases
+
+module _ (tokens : Tokens) (window : List ℕ) where
+  -- more cases behind those that have their numbers
+  beside-append : (ks ls : List ℕ) (cs ds : List Case) → length ks ≡ length cs
+      → told_beside tokens window (ks ++ ls) (cs ++ ds) ≡ told_beside tokens window ks cs ++ told_beside tokens window ls ds
+  beside-append [] ls [] ds e = refl
+  beside-append [] ls (c ∷ cs) ds e = absurd (omega arith)
+  beside-append (k ∷ ks) ls [] ds e = absurd (omega arith)
+  beside-append (k ∷ ks) ls (c ∷ cs) ds e = by_test (is_met window c)
+    where
+      rest : told_beside tokens window (ks ++ ls) (cs ++ ds) ≡ told_beside tokens window ks cs ++ told_beside tokens window ls ds
+      rest = beside-append ks ls cs ds (omega arith)
+
+      by_test : (b : Bool) → cond b ((k, told tokens window c) ∷ told_beside tokens window (ks ++ ls) (cs ++ ds)) (told_beside tokens window (ks ++ ls) (cs ++ ds))
+          ≡ cond b ((k, told tokens window c) ∷ told_beside tokens window ks cs) (told_beside tokens window ks cs) ++ told_beside tokens window ls ds
+      by_test true = ap (λ more. (k, told tokens window c) ∷ more) rest
+      by_test false = rest
+
+  -- cases of one arm
+  beside-one : (k : ℕ) (cs : List Case) → told_beside tokens window (replicate (length cs) k) cs ≡ map (λ t. (k, t)) (told_by_met tokens window cs)
+  beside-one k [] = refl
+  beside-one k (c ∷ cs) = by_test (is_met window c)
+    where
+      by_test : (b : Bool) → cond b ((k, told tokens window c) ∷ told_beside tokens window (replicate (length cs) k) cs) (told_beside tokens window (replicate (length cs) k) cs)
+          ≡ map (λ t. (k, t)) (map (told tokens window) (cond b (c ∷ filter (is_met window) cs) (filter (is_met window) cs)))
+      by_test true = ap (λ more. (k, told tokens window c) ∷ more) (beside-one k cs)
+      by_test false = beside-one k cs
+
+  -- the first that is met is not before the first
+  not_before : (i n : ℕ) (cs : List Case) → position_from (graph.is_met window) i (map bits_of cs) ≡ Some n → i ≤ n
+  not_before i n [] e = absurd (cc)
+  not_before i n (c ∷ cs) e = by_test (is_met window c) e
+    where
+      by_test : (b : Bool) → cond b (Some i) (position_from (graph.is_met window) (i + 1) (map bits_of cs)) ≡ Some n → i ≤ n
+      by_test true e = let same : i ≡ n = cc in omega arith
+      by_test false e = let later = not_before (i + 1) n cs e in omega arith
+
+  -- the first case that is met tells the first
+  pub first_case : (i d : ℕ) (ks : List ℕ) (cs : List Case) (k : ℕ) (case : Case) → position_from (graph.is_met window) i (map bits_of cs) ≡ Some (i + d)
+      → slice_get ks d ≡ Some k → slice_get cs d ≡ Some case → slice_get (told_beside tokens window ks cs) 0 ≡ Some (k, told tokens window case)
+  first_case i d ks [] k case e number at = absurd (cc)
+  first_case i d [] (c ∷ cs) k case e number at = absurd (cc)
+  first_case i zero (j ∷ ks) (c ∷ cs) k case e number at = by_test (is_met window c) e
+    where
+      by_test : (b : Bool) → cond b (Some i) (position_from (graph.is_met window) (i + 1) (map bits_of cs)) ≡ Some (i + zero)
+          → slice_get (cond b ((j, told tokens window c) ∷ told_beside tokens window ks cs) (told_beside tokens window ks cs)) 0 ≡ Some (k, told tokens window case)
+      by_test true e = let one : j ≡ k = cc in let same : c ≡ case = cc in ap (λ (n : ℕ). Some (n, told tokens window c)) one ∙ ap (λ (x : Case). Some (k, told tokens window x)) same
+      by_test false e = let later = not_before (i + 1) (i + zero) cs e in absurd (omega arith)
+  first_case i (suc d) (j ∷ ks) (c ∷ cs) k case e number at = by_test (is_met window c) e
+    where
+      by_test : (b : Bool) → cond b (Some i) (position_from (graph.is_met window) (i + 1) (map bits_of cs)) ≡ Some (i + suc d)
+          → slice_get (cond b ((j, told tokens window c) ∷ told_beside tokens window ks cs) (told_beside tokens window ks cs)) 0 ≡ Some (k, told tokens window case)
+      by_test true e = let same : i ≡ i + suc d = cc in absurd (omega arith)
+      by_test false e = let next : i + suc d ≡ (i + 1) + d = omega arith in first_case (i + 1) d ks cs k case (e ∙ ap Some next) number at
+
+  -- where no case is met, nothing is told
+  pub no_case : (i : ℕ) (ks : List ℕ) (cs : List Case) → position_from (graph.is_met window) i (map bits_of cs) ≡ None → told_beside tokens window ks cs ≡ []
+  no_case i [] cs e = refl
+  no_case i (k ∷ ks) [] e = refl
+  no_case i (k ∷ ks) (c ∷ cs) e = by_test (is_met window c) e
+    where
+      by_test : (b : Bool) → cond b (Some i) (position_from (graph.is_met window) (i + 1) (map bits_of cs)) ≡ None
+          → cond b ((k, told tokens window c) ∷ told_beside tokens window ks cs) (told_beside tokens window ks cs) ≡ []
+      by_test true e = absurd (cc)
+      by_test false e = no_case (i + 1) ks cs e
+
+-- ---- both
+
+-- the cases of no arm
+pub no_arms : (spec : Spec) → AreCasesOfArms spec [] [] []
+no_arms spec = record { beside = refl; told = λ window bytes. refl }
+
+-- the cases of one arm more
+pub cases_pushed : (spec : Spec) (arms : List Arm) (arm : Arm) (ks : List ℕ) (all cases : List Case) (n : ℕ) → n ≡ length arms → AreCasesOfArms spec arms ks all → AreCasesOf spec arm cases
+    → AreCasesOfArms spec (arms ++ arm ∷ []) (ks ++ replicate (length cases) n) (all ++ cases)
+cases_pushed spec arms arm ks all cases n is before one = record {
+  beside = ?;
+  told = λ window bytes.
+      beside-append spec.tokens window ks (replicate (length cases) n) all cases before.beside
+      ∙ ap (λ first. first ++ told_beside spec.tokens window (replicate (length cases) n) cases) (before.told window bytes)
+      ∙ ap (λ rest. told_by_arms spec window 0 arms ++ rest) (beside-one spec.tokens window n cases ∙ ap (map (λ t. (n, t))) (one window bytes))
+      ∙ sym (arms_pushed spec window 0 n arms arm (omega arith));
+}
