@@ -1,14 +1,15 @@
 -- What the cases of all arms tell, and the first of it.
-use Rattle.std.proofs.Common.{◌≡◌, ℕ, zero, suc, ◌+◌, ◌<◌, ◌≤◌, Bool, true, false, cond, List, [], ◌∷◌, ◌++◌, map, filter, length, replicate, slice_get, Option, Some, None, refl, sym, ap, ◌∙◌, subst, append_assoc, arith}
+use Rattle.std.proofs.Common.{◌≡◌, ℕ, zero, suc, ◌+◌, ◌<◌, ◌≤◌, Bool, true, false, cond, List, [], ◌∷◌, ◌++◌, map, filter, length, replicate, slice_get, Option, Some, None, refl, sym, ap, ◌∙◌, subst, append_assoc, length-append, arith}
 use Rattle.std.specs.List.{position_from}
 use Rattle.std.specs.Option.{option_map}
-use Rattle.std.proofs.lemmas.List.{map-append}
+use Rattle.std.proofs.lemmas.List.{length-replicate}
 use Rattle.token_bits.specs.declared.tokens.Tokens.{Tokens}
 use Rattle.sled_model.specs.declared.raw.Match.{Match}
 use Rattle.sled_model.specs.declared.spec.Spec.{Spec}
 use Rattle.sled_model.specs.declared.statement.Arm.{Arm}
+use Rattle.sled_model.specs.declared.statement.Statement.{Statement}
 use Rattle.sled_model.specs.Results.{arm_results}
-use Rattle.sled_model.specs.First.{first_from, first_or}
+use Rattle.sled_model.specs.First.{first, first_from, first_or}
 use Rattle.decision_tree.specs.Graph as graph
 use Rattle.pattern_normal.specs.declared.case.Case.{Case}
 use Rattle.pattern_normal.specs.Alternatives.{IsBytes}
@@ -70,39 +71,39 @@ module _ (tokens : Tokens) (window : List ℕ) where
       by_test false = beside-one k cs
 
   -- the first that is met is not before the first
-  not_before : (i n : ℕ) (cs : List Case) → position_from (graph.is_met window) i (map bits_of cs) ≡ Some n → i ≤ n
+  not_before : (i n : ℕ) (cs : List Case) → position_from (is_met window) i cs ≡ Some n → i ≤ n
   not_before i n [] e = absurd (cc)
   not_before i n (c ∷ cs) e = by_test (is_met window c) e
     where
-      by_test : (b : Bool) → cond b (Some i) (position_from (graph.is_met window) (i + 1) (map bits_of cs)) ≡ Some n → i ≤ n
+      by_test : (b : Bool) → cond b (Some i) (position_from (is_met window) (i + 1) cs) ≡ Some n → i ≤ n
       by_test true e = let same : i ≡ n = cc in omega arith
       by_test false e = let later = not_before (i + 1) n cs e in omega arith
 
   -- the first case that is met tells the first
-  pub first_case : (i d : ℕ) (ks : List ℕ) (cs : List Case) (k : ℕ) (case : Case) → position_from (graph.is_met window) i (map bits_of cs) ≡ Some (i + d)
+  pub first_case : (i d : ℕ) (ks : List ℕ) (cs : List Case) (k : ℕ) (case : Case) → position_from (is_met window) i cs ≡ Some (i + d)
       → slice_get ks d ≡ Some k → slice_get cs d ≡ Some case → slice_get (told_beside tokens window ks cs) 0 ≡ Some (k, told tokens window case)
   first_case i d ks [] k case e number at = absurd (cc)
   first_case i d [] (c ∷ cs) k case e number at = absurd (cc)
   first_case i zero (j ∷ ks) (c ∷ cs) k case e number at = by_test (is_met window c) e
     where
-      by_test : (b : Bool) → cond b (Some i) (position_from (graph.is_met window) (i + 1) (map bits_of cs)) ≡ Some (i + zero)
+      by_test : (b : Bool) → cond b (Some i) (position_from (is_met window) (i + 1) cs) ≡ Some (i + zero)
           → slice_get (cond b ((j, told tokens window c) ∷ told_beside tokens window ks cs) (told_beside tokens window ks cs)) 0 ≡ Some (k, told tokens window case)
       by_test true e = let one : j ≡ k = cc in let same : c ≡ case = cc in ap (λ (n : ℕ). Some (n, told tokens window c)) one ∙ ap (λ (x : Case). Some (k, told tokens window x)) same
       by_test false e = let later = not_before (i + 1) (i + zero) cs e in absurd (omega arith)
   first_case i (suc d) (j ∷ ks) (c ∷ cs) k case e number at = by_test (is_met window c) e
     where
-      by_test : (b : Bool) → cond b (Some i) (position_from (graph.is_met window) (i + 1) (map bits_of cs)) ≡ Some (i + suc d)
+      by_test : (b : Bool) → cond b (Some i) (position_from (is_met window) (i + 1) cs) ≡ Some (i + suc d)
           → slice_get (cond b ((j, told tokens window c) ∷ told_beside tokens window ks cs) (told_beside tokens window ks cs)) 0 ≡ Some (k, told tokens window case)
       by_test true e = let same : i ≡ i + suc d = cc in absurd (omega arith)
       by_test false e = let next : i + suc d ≡ (i + 1) + d = omega arith in first_case (i + 1) d ks cs k case (e ∙ ap Some next) number at
 
   -- where no case is met, nothing is told
-  pub no_case : (i : ℕ) (ks : List ℕ) (cs : List Case) → position_from (graph.is_met window) i (map bits_of cs) ≡ None → told_beside tokens window ks cs ≡ []
+  pub no_case : (i : ℕ) (ks : List ℕ) (cs : List Case) → position_from (is_met window) i cs ≡ None → told_beside tokens window ks cs ≡ []
   no_case i [] cs e = refl
   no_case i (k ∷ ks) [] e = refl
   no_case i (k ∷ ks) (c ∷ cs) e = by_test (is_met window c) e
     where
-      by_test : (b : Bool) → cond b (Some i) (position_from (graph.is_met window) (i + 1) (map bits_of cs)) ≡ None
+      by_test : (b : Bool) → cond b (Some i) (position_from (is_met window) (i + 1) cs) ≡ None
           → cond b ((k, told tokens window c) ∷ told_beside tokens window ks cs) (told_beside tokens window ks cs) ≡ []
       by_test true e = absurd (cc)
       by_test false e = no_case (i + 1) ks cs e
@@ -117,10 +118,21 @@ no_arms spec = record { beside = refl; told = λ window bytes. refl }
 pub cases_pushed : (spec : Spec) (arms : List Arm) (arm : Arm) (ks : List ℕ) (all cases : List Case) (n : ℕ) → n ≡ length arms → AreCasesOfArms spec arms ks all → AreCasesOf spec arm cases
     → AreCasesOfArms spec (arms ++ arm ∷ []) (ks ++ replicate (length cases) n) (all ++ cases)
 cases_pushed spec arms arm ks all cases n is before one = record {
-  beside = ?;
+  beside = omega (arith, length-append ks (replicate (length cases) n), length-append all cases, length-replicate (length cases) n, before.beside);
   told = λ window bytes.
       beside-append spec.tokens window ks (replicate (length cases) n) all cases before.beside
       ∙ ap (λ first. first ++ told_beside spec.tokens window (replicate (length cases) n) cases) (before.told window bytes)
       ∙ ap (λ rest. told_by_arms spec window 0 arms ++ rest) (beside-one spec.tokens window n cases ∙ ap (map (λ t. (n, t))) (one window bytes))
       ∙ sym (arms_pushed spec window 0 n arms arm (omega arith));
 }
+
+-- the first result of the statement is the first that its cases tell
+pub first_told : (spec : Spec) (statement : Statement) (ks : List ℕ) (cases : List Case) (window : List ℕ) → AreCasesOfArms spec statement.arms ks cases → IsBytes window
+    → option_map numbered (first spec statement window) ≡ slice_get (told_beside spec.tokens window ks cases) 0
+first_told spec statement ks cases window h bytes =
+    first_is_told spec window 0 statement.arms ∙ ap (λ (ts : List (ℕ × Told)). slice_get ts 0) (sym (h.told window bytes))
+
+-- the place of the first case is that of the first condition
+pub same_place : (window : List ℕ) (i : ℕ) (cs : List Case) → position_from (graph.is_met window) i (map bits_of cs) ≡ position_from (is_met window) i cs
+same_place window i [] = refl
+same_place window i (c ∷ cs) = ap (λ later. cond (is_met window c) (Some i) later) (same_place window (i + 1) cs)

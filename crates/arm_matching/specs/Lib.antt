@@ -1,2 +1,3 @@
 pub mod Matcher
 pub mod Laws
+pub mod Example

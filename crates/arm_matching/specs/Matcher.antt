@@ -1,5 +1,5 @@
 -- Statements that are made ready to be matched.
-use Rattle.std.specs.Prelude.{◌≡◌, ℕ, ◌+◌, List, [], ◌∷◌, ◌++◌, map, length, if◌then◌else◌}
+use Rattle.std.specs.Prelude.{◌≡◌, ℕ, ◌+◌, List, [], ◌∷◌, ◌++◌, map, length, position, Option, if◌then◌else◌}
 use Rattle.bit_cases.specs.declared.byte_case.ByteCase.{ByteCase}
 use Rattle.token_bits.specs.declared.tokens.Tokens.{Tokens}
 use Rattle.sled_model.specs.declared.raw.Match.{Match}
@@ -59,3 +59,7 @@ pub record IsReady (matcher : Matcher) : Type 0 where
   pub matchable : IsMatchable matcher.spec.now matcher.statement.now
   pub cases : AreCasesOfArms matcher.spec.now matcher.statement.now.arms matcher.arms matcher.cases
   pub bits : matcher.tree.cases.items ≡ map bits_of matcher.cases
+
+-- the place of the first case that the window meets
+abbrev pub first_place : Matcher → List ℕ → Option ℕ
+first_place matcher window = position (is_met window) matcher.cases

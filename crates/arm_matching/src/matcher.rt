@@ -1,9 +1,9 @@
 // Statements that are made ready to be matched.
-ghost use Rattle.std.specs.Prelude.{◌≡◌, ◌+◌, ◌≤◌, length, IfOk, IfSome, option_map};
+ghost use Rattle.std.specs.Prelude.{◌≡◌, ◌+◌, ◌<◌, ◌≤◌, length, IfOk, IfSome, option_map};
 ghost use Rattle.decision_tree.specs.Trees.{asks};
 ghost use Rattle.sled_model.specs.First.{first};
 ghost use Rattle.match_meaning.specs.Matchable.{IsMatchable};
-ghost use Rattle.arm_matching.specs.Matcher.{IsReady, numbered, result_told};
+ghost use Rattle.arm_matching.specs.Matcher.{IsReady, first_place, numbered, result_told};
 
 use crate::cases::{arm_cases, bits_of};
 use decision_tree::{Peek, Tree, build};
@@ -70,14 +70,25 @@ impl<'a> Matcher<'a> {
         ensures window { window.new.window.now ≡ window.old.window.now }
         ensures asked { window.new.asked ≤ window.old.asked + asks self.now.tree window.old.window.now }
     {
-        let number = self.tree.decide(window)?;
-        let at = number.0 as usize;
-        let (arm, case) = (self.arms.as_slice()[at], &self.cases.as_slice()[at]);
+        let at = self.first_case(window)?;
+        let case = &self.cases.as_slice()[at];
         Some(ArmResult {
-            arm,
+            arm: self.arms.as_slice()[at],
             len: case.bits.len,
             skeleton: &case.bind,
         })
+    }
+
+    /// The place of the first case that the window meets.
+    fn first_case(&self, window: &mut Peek<'_>) -> Option<usize>
+        requires { IsReady self.now }
+        ensures first { result ≡ first_place self.now window.old.window.now }
+        ensures within { IfSome result (λ at. at < length self.now.cases) }
+        ensures window { window.new.window.now ≡ window.old.window.now }
+        ensures asked { window.new.asked ≤ window.old.asked + asks self.now.tree window.old.window.now }
+    {
+        let number = self.tree.decide(window)?;
+        Some(number.0 as usize)
     }
 
     /// The decision graph, in which each case of each arm is one condition.
