@@ -27,6 +27,8 @@ use Rattle.sled_model.specs.Solved.{IsSolved, GivesOperand, IsHeldOnce}
 use Rattle.sled_model.specs.SolvingOrder.{IsDetermined, is_among}
 use Rattle.sled_model.specs.PlainStatements.{IsMatchLength, IsBoundedArm}
 use Rattle.sled_model.specs.Results.{Known, known_from, results, results_from, one_match, has_relation, limit_results, choice_match, choices_from, arm_context, operands_in}
+use Rattle.sled_model.specs.Admitted.{list_admits}
+use Rattle.sled_model.proofs.AdmittedLaws.{results-Apply}
 use Rattle.sled_model.specs.Specs.{IsSpec, IsConstructorOf, IsKnownKind, IsBodyLeaf, names_of, constructor_names_of}
 use Rattle.sled_model.specs.Leaves.{AllLeaves}
 use Rattle.match_meaning.specs.Matchable.{IsMatchable, IsMatchableArm}
@@ -55,8 +57,17 @@ limit_one value bytes i = by_value (value_at tokens op bytes i)
 choice_one : (k : ℕ) (arguments : List Argument) (found : List Match) → AllOne found → AllOne (map (choice_match k arguments) found)
 choice_one k arguments found h = All-map (λ (a : Match). a.len ≡ 1) (choice_match k arguments) found h
 
+abbrev known_low : Known
+known_low = record { constructor = low; body = limit_results tokens op Equal 1 }
+
+abbrev known_high : Known
+known_high = record { constructor = high; body = limit_results tokens op Equal 2 }
+
 abbrev known : List Known
-known = known_from tokens [] (low ∷ high ∷ [])
+known = known_low ∷ known_high ∷ []
+
+abbrev known_put : Known
+known_put = record { constructor = put; body = choices_from 0 known reg }
 
 put_one : (bytes : List ℕ) (i : ℕ) → AllOne (choices_from 0 known reg bytes i)
 put_one bytes i =
@@ -66,7 +77,10 @@ put_one bytes i =
     (All-append P (map (choice_match 1 []) highs) [] (choice_one 1 [] highs (limit_one 2 bytes i)) (All-nil P))
 
 apply_one : (arguments : List Argument) (bytes : List ℕ) (i : ℕ) → AllOne (results (arm_context description) (Apply (record { 0 = 2 }) arguments) bytes i)
-apply_one arguments bytes i = choice_one 2 arguments (filter _ (choices_from 0 known reg bytes i)) (All-filter _ (λ (a : Match). a.len ≡ 1) (choices_from 0 known reg bytes i) (put_one bytes i))
+apply_one arguments bytes i =
+    let all = choices_from 0 known reg bytes i in let cx = arm_context description in
+    let admitted = λ (a : Match). list_admits cx.known put a.binds 0 arguments in
+    subst AllOne (sym (results-Apply cx (record { 0 = 2 }) arguments bytes i)) (choice_one 2 arguments (filter admitted all) (All-filter admitted (λ (a : Match). a.len ≡ 1) all (put_one bytes i)))
 
 bounded : (found : List Match) → AllOne found → All (λ (m : Match). IsMatchLength m.len) found
 bounded found h = All-weaker (λ (a : Match). a.len ≡ 1) (λ (m : Match). IsMatchLength m.len) (λ a e. (omega (arith, e), omega (arith, e))) found h
@@ -174,7 +188,8 @@ readable =
     record {
       is_spec = sound;
       constructors = All-cons P low (high ∷ put ∷ []) (readable_op (codes "low") 1) (All-cons P high (put ∷ []) (readable_op (codes "high") 2) (All-cons P put [] readable_put (All-nil P)));
-      short = All-cons HasShortBody _ _ (λ bytes i. short _ (limit_one 1 bytes i)) (All-cons HasShortBody _ _ (λ bytes i. short _ (limit_one 2 bytes i)) (All-cons HasShortBody _ [] (λ bytes i. short _ (put_one bytes i)) (All-nil HasShortBody)));
+      short = All-cons HasShortBody known_low (known_high ∷ known_put ∷ []) (λ bytes i. short _ (limit_one 1 bytes i))
+          (All-cons HasShortBody known_high (known_put ∷ []) (λ bytes i. short _ (limit_one 2 bytes i)) (All-cons HasShortBody known_put [] (λ bytes i. short _ (put_one bytes i)) (All-nil HasShortBody)));
     }
 
 -- ---- the statement

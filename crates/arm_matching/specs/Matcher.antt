@@ -1,5 +1,6 @@
 -- Statements that are made ready to be matched.
-use Rattle.std.specs.Prelude.{◌≡◌, ℕ, ◌+◌, List, [], ◌∷◌, ◌++◌, map, length, position, Option, if◌then◌else◌}
+use Rattle.std.specs.Prelude.{◌≡◌, ℕ, ◌+◌, List, [], ◌∷◌, ◌++◌, map, length, Option, if◌then◌else◌}
+use Rattle.std.specs.List.{position_from}
 use Rattle.bit_cases.specs.declared.byte_case.ByteCase.{ByteCase}
 use Rattle.token_bits.specs.declared.tokens.Tokens.{Tokens}
 use Rattle.sled_model.specs.declared.raw.Match.{Match}
@@ -62,4 +63,4 @@ pub record IsReady (matcher : Matcher) : Type 0 where
 
 -- the place of the first case that the window meets
 abbrev pub first_place : Matcher → List ℕ → Option ℕ
-first_place matcher window = position (is_met window) matcher.cases
+first_place matcher window = position_from (is_met window) 0 matcher.cases

@@ -2,6 +2,7 @@
 ghost use Rattle.std.specs.Prelude.{◌≡◌, ◌+◌, ◌<◌, ◌≤◌, length, IfOk, IfSome, option_map};
 ghost use Rattle.decision_tree.specs.Trees.{asks};
 ghost use Rattle.sled_model.specs.First.{first};
+ghost use Rattle.pattern_normal.specs.Alternatives.{IsBytes};
 ghost use Rattle.match_meaning.specs.Matchable.{IsMatchable};
 ghost use Rattle.arm_matching.specs.Matcher.{IsReady, first_place, numbered, result_told};
 
@@ -70,6 +71,7 @@ impl<'a> Matcher<'a> {
         ensures window { window.new.window.now ≡ window.old.window.now }
         ensures asked { window.new.asked ≤ window.old.asked + asks self.now.tree window.old.window.now }
     {
+        are_bytes(window.window());
         let at = self.first_case(window)?;
         let case = &self.cases.as_slice()[at];
         Some(ArmResult {
@@ -97,4 +99,11 @@ impl<'a> Matcher<'a> {
     {
         &self.tree
     }
+}
+
+/// Each byte is below 256. It does nothing: its contract is what it is for.
+fn are_bytes(bytes: &[u8])
+    ensures { IsBytes bytes.now }
+{
+    let _bytes = bytes;
 }
