@@ -25,6 +25,7 @@ pub struct Matcher<'a> {
 }
 
 /// A result of an arm on a window: the number of the arm, how many bytes it takes, and what it binds, without the values.
+#[derive(Clone, Copy)]
 pub struct ArmResult<'m> {
     /// The number of the arm, counted from 0.
     pub arm: usize,
