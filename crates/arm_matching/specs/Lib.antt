@@ -1,3 +1,2 @@
 pub mod Matcher
 pub mod Laws
-pub mod Example

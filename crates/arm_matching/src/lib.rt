@@ -5,8 +5,6 @@
 mod cases;
 mod laws;
 mod matcher;
-#[cfg(test)]
-mod tests;
 
 pub use laws::first_on_front;
 pub use matcher::{ArmResult, Matcher, compile};
