@@ -363,12 +363,12 @@ fn numbers_below(alloc: Global, count: u32) -> Result<Vec<u32>, NoMemory>
     Ok(numbers)
 }
 
-/// The graph of at most 16,384 cases, with a limit of at most 24 bits: for each window the walk ends at the first case that the window
+/// The graph of fewer than 2^32 cases, with a limit of at most 24 bits: for each window the walk ends at the first case that the window
 /// meets. On each path at most `limit` bits are tested, none of them twice, and a Check stands only where just `limit` bits were tested
 /// before. Each Test asks for bits of the first case that is left there, and its links do not all lead to one node. `NoMemory` where there
 /// is no memory for the nodes.
 pub fn build_within(alloc: Global, cases: &[ByteCase], limit: u8) -> Result<Tree, NoMemory>
-    requires count { length cases.now ≤ 16384 }
+    requires count { length cases.now < 2 ^ 32 }
     requires limit { limit ≤ 24 }
     ensures cases { IfOk result (λ tree. tree.cases.items ≡ cases.now) }
     ensures walk { IfOk result (λ tree. (window : List ℕ) → walk tree window ≡ first_met cases.now window) }
@@ -386,7 +386,7 @@ pub fn build_within(alloc: Global, cases: &[ByteCase], limit: u8) -> Result<Tree
 
 /// `build_within` with a limit of 16 bits.
 pub fn build(alloc: Global, cases: &[ByteCase]) -> Result<Tree, NoMemory>
-    requires { length cases.now ≤ 16384 }
+    requires { length cases.now < 2 ^ 32 }
     ensures cases { IfOk result (λ tree. tree.cases.items ≡ cases.now) }
     ensures walk { IfOk result (λ tree. (window : List ℕ) → walk tree window ≡ first_met cases.now window) }
     ensures reached { IfOk result (λ tree. (number : ℕ) → number < length tree.nodes → Reaches tree.nodes tree.root.0 number) }

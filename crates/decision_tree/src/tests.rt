@@ -42,6 +42,7 @@ fn two_tests_decide(rt: HostRuntime) -> Result<(), Fail> {
     let mut short = Peek::new(&[1, 0, 0, 0]);
     assert_eq!(rt; tree.decide(&mut short), Some(CaseNo(1)));
     assert!(rt; short.asked() <= 2);
+    assert_eq!(rt; short.window().len(), 4);
     let mut long = Peek::new(&[1, 0, 0, 0, 0]);
     assert_eq!(rt; tree.decide(&mut long), Some(CaseNo(0)));
     assert!(rt; long.asked() <= 2);
