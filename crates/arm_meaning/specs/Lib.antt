@@ -1,0 +1,5 @@
+pub mod All
+pub mod Applications
+pub mod Bound
+pub mod Patterns
+pub mod Sound
