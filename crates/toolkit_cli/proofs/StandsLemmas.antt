@@ -59,7 +59,7 @@ pub record HasOutput (sink : Change) (note : List ℕ) (wanted : Status) (r : Re
 is_reply : (sink log : Change) (note : List ℕ) (wanted : Status) (r : Reply) → HasOutput sink note wanted r → Gets log note → IsReply sink log wanted r
 is_reply sink log note wanted r has got = record { output = has.output; notes = subst (λ (b : List ℕ). Gets log b) (sym has.text) got; status = sym has.answer }
 
-answer_stands : (settles : Settled → Type 0) (input : Option (List ℕ)) (unread : List ℕ → Type 0) (sink log : Change) (note : List ℕ) (wanted : Status) (s : Settled) → IsAnswer wanted → settles s
+pub answer_stands : (settles : Settled → Type 0) (input : Option (List ℕ)) (unread : List ℕ → Type 0) (sink log : Change) (note : List ℕ) (wanted : Status) (s : Settled) → IsAnswer wanted → settles s
     → ForSome (reply s input) (HasOutput sink note wanted) → Gets log note → Stands settles input unread sink log wanted
 answer_stands settles input unread sink log note Done s is so has got = (s, so, λ r e. is_reply sink log note Done r (has r e) got)
 answer_stands settles input unread sink log note (Refused number) s is so has got = (s, so, λ r e. is_reply sink log note (Refused number) r (has r e) got)
@@ -254,7 +254,7 @@ unread_untouched : (asked : Option Words) (shelf : Shelved) (shelf_rose : List �
 unread_untouched None shelf shelf_rose intake sink name h = absurd h
 unread_untouched (Some words) shelf shelf_rose intake sink name (inl h) = inr h.2
 unread_untouched (Some words) shelf shelf_rose intake sink name (inr (inl h)) = inr h.3
-unread_untouched (Some words) shelf shelf_rose intake sink name (inr (inr (e, spec, statement, both, more))) = inl (both.0, statement, both.2, both.3)
+unread_untouched (Some words) shelf shelf_rose intake sink name (inr (inr h)) = let both = h.1.2 in inl (both.0, h.1.1, both.2, both.3)
 
 pub stands_untouched : (asked : Option Words) (shelf : Shelved) (input : Option (List ℕ)) (shelf_rose : List ℕ → Type 0) (intake sink log : Change) (status : Status)
     → Stands (Settles asked shelf) input (UnreadByWords asked shelf shelf_rose intake sink) sink log status → AcceptsByWords asked shelf ⊎ GetsNothing sink

@@ -58,7 +58,7 @@ returns-clause-stands g c =
     let two : IsThere shelf name (λ t. IsStated d t statement) = (sym (c.read_decls.ensures.absent name) ∙ c.in-Ok-read_statement.ensures.there, λ t told. c.in-Ok-read_statement.ensures.made t (c.read_decls.ensures.texts name ∙ told)) in
     Stands-along _ _ _ _ _ _ _ _
     (λ s e. subst (SettlesDis (command_words c.args.command.now) shelf) (sym e) (refl, (d, refl, one, two)))
-    (λ who read. inr (inr (read.0, d.spec, statement, (d, refl, one, two), read.1)))
+    (λ who read. inr (inr (read.0, (d.spec, statement, (d, refl, one, two), read.1))))
     c.listed.ensures.stands
 
 pub returns-clause-unasked : goal.returns-clause-unasked

@@ -12,4 +12,4 @@ pub returns-clause-only : goal.returns-clause-only
 returns-clause-only g c = λ is s told so. only_settled _ _ _ _ s told so (stands_answer _ _ _ _ _ _ is c.answer.ensures.stands)
 
 pub returns-clause-untouched : goal.returns-clause-untouched
-returns-clause-untouched g c = stands_untouched _ _ _ _ _ _ _ c.answer.ensures.stands
+returns-clause-untouched g c = stands_untouched _ _ _ _ _ _ _ _ c.answer.ensures.stands
