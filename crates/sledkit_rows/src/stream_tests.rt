@@ -13,15 +13,18 @@ const SET_OR_SKIP: &str = "match case op = 2 & v => \"set {v}\" else skip 3";
 const SHORT: &[u8] = b"\x02\0\0\x01\x02\0\0\x02\x01\x02\x03";
 
 // Ten words; the same with a second one that no arm matches.
-const TEN: &[u8] = b"\x02\0\0\x01\x02\0\0\x02\x02\0\0\x03\x02\0\0\x04\x02\0\0\x05\x02\0\0\x06\x02\0\0\x07\x02\0\0\x08\x02\0\0\x09\x02\0\0\x0a";
+const TEN: &[u8] =
+    b"\x02\0\0\x01\x02\0\0\x02\x02\0\0\x03\x02\0\0\x04\x02\0\0\x05\x02\0\0\x06\x02\0\0\x07\x02\0\0\x08\x02\0\0\x09\x02\0\0\x0a";
 
-const TEN_REFUSED: &[u8] = b"\x02\0\0\x01\x03\0\0\x02\x02\0\0\x03\x02\0\0\x04\x02\0\0\x05\x02\0\0\x06\x02\0\0\x07\x02\0\0\x08\x02\0\0\x09\x02\0\0\x0a";
+const TEN_REFUSED: &[u8] =
+    b"\x02\0\0\x01\x03\0\0\x02\x02\0\0\x03\x02\0\0\x04\x02\0\0\x05\x02\0\0\x06\x02\0\0\x07\x02\0\0\x08\x02\0\0\x09\x02\0\0\x0a";
 
 #[test]
 fn an_input_in_pieces_is_listed_as_a_whole_one(rt: HostRuntime) -> Result<(), Fail> {
     let ones = [1; 11];
     let fives = [5; 3];
     let pieces: [&[u32]; 3] = [&ones, &fives, &[]];
+    let lines = "00000000: 02000001  set 1\n00000004: 02000002  set 2\n00000008: 010203  .skip 3\n";
     for sizes in pieces {
         let outside = Outside {
             spec: SPEC,
@@ -36,7 +39,7 @@ fn an_input_in_pieces_is_listed_as_a_whole_one(rt: HostRuntime) -> Result<(), Fa
         };
         let (found, out, notes) = answer(rt.alloc(), &["dis", "s", "m", "0"], &outside)?;
         assert_eq!(rt; found, Status::Done);
-        assert_eq!(rt; out.bytes(), b"00000000: 02000001  set 1\n00000004: 02000002  set 2\n00000008: 010203  .skip 3\n");
+        assert_eq!(rt; out.bytes(), lines.as_bytes());
         assert!(rt; notes.bytes().is_empty());
     }
     Ok(())
@@ -50,11 +53,12 @@ fn what_was_read_before_a_read_that_fails(rt: HostRuntime) -> Result<(), Fail> {
     let refused = "input: error 9: no arm matches at 00000004\n";
     let sevens = [7; 6];
     // The input, the sizes and the read that fails; the status, the output, the notes.
-    let rows: [(&[u8], &[u32], u64, Status, &str, &str); 4] = [
-        (TEN, &[], 2, Status::ReadFault, front, unread),
+    let rows: [(&[u8], &[u32], u64, Status, &str, &str); 5] = [
+        (TEN, &[], 3, Status::ReadFault, front, unread),
+        (TEN, &[], 2, Status::ReadFault, first, unread),
         (TEN, &sevens, 7, Status::ReadFault, front, unread),
         (TEN, &sevens, 5, Status::ReadFault, "", unread),
-        (TEN_REFUSED, &[], 2, Status::Refused(9), first, refused),
+        (TEN_REFUSED, &[], 3, Status::Refused(9), first, refused),
     ];
     for (input, sizes, fails, status, output, told) in rows {
         let outside = Outside {
