@@ -4,9 +4,9 @@
 # Where objdump is there, it lists the same image in the same run, as bytes of an i386. Both write to nowhere.
 set -eu
 top=$(cd -- "$(dirname -- "${BASH_SOURCE[0]}")/.." && pwd)
-spec=${1:-$top/examples/first.sled}
-match=${2:-$top/examples/first.match}
-small=${3:-$top/examples/first.bin}
+spec=${1:-$top/examples/sparc.sled}
+match=${2:-$top/examples/sparc.match}
+small=${3:-$top/examples/sparc.bin}
 room=$(mktemp -d)
 trap 'rm -rf -- "$room"' EXIT
 
