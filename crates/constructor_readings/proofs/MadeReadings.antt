@@ -61,7 +61,7 @@ made_each Q (n ∷ ns) (p ∷ ps) h =
     All-cons Q (record { name = n; member = Some p }) (one_for_each ns ps) (All-head (λ (q : Pattern). (m : List ℕ) → Q (record { name = m; member = Some q })) p ps h n)
     (made_each Q ns ps (All-tail (λ (q : Pattern). (m : List ℕ) → Q (record { name = m; member = Some q })) p ps h))
 
-made_by : (Q : Made → Type 0) (declared : Declared) (opcode : List ℕ) (o : Option Meaning) → ((n : List ℕ) → Q (record { name = n; member = None }))
+pub made_by : (Q : Made → Type 0) (declared : Declared) (opcode : List ℕ) (o : Option Meaning) → ((n : List ℕ) → Q (record { name = n; member = None }))
     → ((ps : List Pattern) → o ≡ Some (meaning.Group ps) → All (λ (p : Pattern). (n : List ℕ) → Q (record { name = n; member = Some p })) ps) → All Q (makings_by declared opcode o)
 made_by Q declared opcode (Some (meaning.Group ps)) lone group = made_each Q (names_behind declared opcode) ps (group ps refl)
 made_by Q declared opcode _ lone group = All-cons Q (record { name = opcode; member = None }) [] (lone opcode) (All-nil Q)

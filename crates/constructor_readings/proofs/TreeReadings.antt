@@ -122,7 +122,7 @@ module _ (d s : Declared) (names : List (List ℕ)) (silent : (w : List ℕ) →
   unbound w false is none = is
 
   mutual
-    nothing_made : (t : PatternTree) → bound s t ≡ [] → All ReadsNothing (patterns_of d names t)
+    pub nothing_made : (t : PatternTree) → bound s t ≡ [] → All ReadsNothing (patterns_of d names t)
     nothing_made (Either' a ts) none =
         let chosen = choices (row_patterns d names ts) in
         All-map ReadsNothing pattern.Either chosen

@@ -31,7 +31,7 @@ all_here p [] k x at all = cc
 all_here p (y ∷ xs) zero x at all = let same : y ≡ x = cc in ap p (sym same) ∙ (both_of (p y) (list_all p xs) all).0
 all_here p (y ∷ xs) (suc k) x at all = all_here p xs k x at (both_of (p y) (list_all p xs) all).1
 
-name_among : (os : List OperandTree) (k : ℕ) (o : OperandTree) → slice_get os k ≡ Some o → is_among (operand_names os) (operand_name o) ≡ true
+pub name_among : (os : List OperandTree) (k : ℕ) (o : OperandTree) → slice_get os k ≡ Some o → is_among (operand_names os) (operand_name o) ≡ true
 name_among [] k o at = cc
 name_among (x ∷ os) zero o at =
     let same : x ≡ o = cc in
@@ -72,7 +72,7 @@ first_case false l n m ms =
     ∙ ap (λ t. option_and_then (slice_get (m ∷ ms)) (cond t (Some (suc l)) None)) (suc_below l n (nat_lt l n) refl) ∙ behind (nat_lt l n) l m ms
 
 -- the first name's meaning, or one among the others'
-among_first : (n : List ℕ) (ns : List (List ℕ)) (m : Meaning) (ms : List Meaning) (w : List ℕ)
+pub among_first : (n : List ℕ) (ns : List (List ℕ)) (m : Meaning) (ms : List Meaning) (w : List ℕ)
     → meaning_among (n ∷ ns) (m ∷ ms) w ≡ cond (bytes_eq w n) (Some m) (meaning_among ns ms w)
 among_first n ns m ms w = first_case (bytes_eq w n) (position_or_len (bytes_eq w) ns) (length ns) m ms
 

@@ -100,7 +100,7 @@ module _ (scope : Declared) (many : length scope.local_names ≡ length scope.lo
   inside = with_member scope opcode (Some p)
 
   -- in the scope of a member a name stands for the same, or is the group's and stands for the member
-  member_meaning : (w : List ℕ) → (meaning_of inside w ≡ meaning_of scope w) ⊎ ((meaning_of inside w ≡ Some (meaning.Pattern p)) × (meaning_of scope w ≡ Some (meaning.Group ps)))
+  pub member_meaning : (w : List ℕ) → (meaning_of inside w ≡ meaning_of scope w) ⊎ ((meaning_of inside w ≡ Some (meaning.Pattern p)) × (meaning_of scope w ≡ Some (meaning.Group ps)))
   member_meaning w = by_test (bytes_eq w opcode) refl where
     more : (t : Bool) → bytes_eq w opcode ≡ t
         → meaning_of inside w ≡ option_or (option_or (meaning_among scope.local_names scope.local_meanings w) (cond t (Some (meaning.Pattern p)) None)) (meaning_among scope.names scope.meanings w)
