@@ -1,0 +1,4 @@
+pub mod LengthLaws
+pub mod Mirrors
+pub mod Applications
+pub mod Tabled

@@ -1,0 +1,16 @@
+use Rattle.std.proofs.Common.{◌≡◌, List, length, sym, ap, ◌∙◌}
+use Rattle.std.proofs.lemmas.Result.{IfOk-weaker}
+use Rattle.sled_model.specs.declared.pattern.Pattern.{Pattern}
+use Rattle.sled_model.specs.declared.pattern.Pattern.TheVariants.{Chain}
+use Rattle.application_measures.specs.Arms.{AreArmMeasures, ArePartsOf}
+use Rattle.application_measures.specs.Parts.{AreOver, numbered}
+use Rattle.application_measures.proofs.Mirrors.{chain_measured}
+use Rattle.application_measures.proofs.wholes.chain.Goals as goal
+
+pub returns : goal.returns
+returns c =
+    let spec = c.args.spec.now in let parts = c.args.parts.now in let members = c.in_ok-numbered.field-0 in
+    IfOk-weaker c.over.result (AreOver spec.tokens parts (Chain members))
+    (λ m. (ps : List Pattern) → length ps ≡ c.args.count → ArePartsOf spec ps parts → AreArmMeasures spec (Chain ps) m)
+    (λ m h ps long are. chain_measured spec ps parts are members (c.in_ok-numbered.ensures ∙ ap numbered (sym long)) m h)
+    c.over.ensures
