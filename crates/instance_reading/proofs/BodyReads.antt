@@ -101,7 +101,7 @@ module _ (tokens : Tokens) (bytes : List ℕ) (i : ℕ) where
 
 -- ---- entries one after another
 
-zip_append : {X Y : Type 0} (R : X → Y → Type 0) (xs us : List X) (ys vs : List Y) → AllZip R xs ys → AllZip R us vs → AllZip R (xs ++ us) (ys ++ vs)
+pub zip_append : {X Y : Type 0} (R : X → Y → Type 0) (xs us : List X) (ys vs : List Y) → AllZip R xs ys → AllZip R us vs → AllZip R (xs ++ us) (ys ++ vs)
 zip_append R [] us [] vs h g = g
 zip_append R [] us (y ∷ ys) vs h g = absurd h
 zip_append R (x ∷ xs) us [] vs h g = absurd h

@@ -71,17 +71,17 @@ module _ (tokens : Tokens) (stop : ℕ) where
 
 -- ---- values of fields
 
-pairs_tail : {X : Type 0} (R : X → X → Type 0) (x : X) (xs : List X) → AllPairs R (x ∷ xs) → AllPairs R xs
+pub pairs_tail : {X : Type 0} (R : X → X → Type 0) (x : X) (xs : List X) → AllPairs R (x ∷ xs) → AllPairs R xs
 pairs_tail R x xs h i j d l m = h (suc i) (suc j) d (omega (arith, l)) (omega (arith, m))
 
-pairs_head : {X : Type 0} (R : X → X → Type 0) (x : X) (xs : List X) (y : X) → AllPairs R (x ∷ xs) → Contains xs y → R x y
+pub pairs_head : {X : Type 0} (R : X → X → Type 0) (x : X) (xs : List X) (y : X) → AllPairs R (x ∷ xs) → Contains xs y → R x y
 pairs_head R x xs y h (k, l, e) = subst (R x) e (h 0 (suc k) y (omega arith) (omega (arith, l)))
 
 same_value : (f : FieldId) (v u at to : ℕ) → Value f v at ≡ Value f u to → v ≡ u
 same_value f v u at to e = cc
 
 -- a value among the entries is of a field that was read
-read_there : (entries : List RawEntry) (f : FieldId) (v at : ℕ) → Contains entries (Value f v at) → Contains (filter_map read_field entries) f.0
+pub read_there : (entries : List RawEntry) (f : FieldId) (v at : ℕ) → Contains entries (Value f v at) → Contains (filter_map read_field entries) f.0
 read_there [] f v at h = absurd (Contains-nil _ h)
 read_there (entry ∷ entries) f v at h = by_place (Contains-cons_cases entry entries (Value f v at) h) (read_there entries f v at)
   where
@@ -158,7 +158,7 @@ first_place (k ∷ ks) j h = by_test (k == j) refl h (first_place ks j)
         let more : 1 + position_or_len (λ n. n == j) ks ≡ suc (position_or_len (λ n. n == j) ks) = omega arith in
         (omega (arith, l), ap (slice_get (k ∷ ks)) more ∙ r.1)
 
-zip_at : {X Y : Type 0} (R : X → Y → Type 0) (xs : List X) (ys : List Y) (i : ℕ) (x : X) → AllZip R xs ys → slice_get xs i ≡ Some x → (y : Y) × (slice_get ys i ≡ Some y) × R x y
+pub zip_at : {X Y : Type 0} (R : X → Y → Type 0) (xs : List X) (ys : List Y) (i : ℕ) (x : X) → AllZip R xs ys → slice_get xs i ≡ Some x → (y : Y) × (slice_get ys i ≡ Some y) × R x y
 zip_at R [] ys i x h e = cc
 zip_at R (x ∷ xs) [] i z h e = absurd h
 zip_at R (x ∷ xs) (y ∷ ys) zero z h e = let same : x ≡ z = cc in (y, refl, subst (λ x. R x y) same h.0)

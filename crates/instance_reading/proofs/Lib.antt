@@ -8,5 +8,12 @@ pub mod Choices
 pub mod Declared
 pub mod Inversions
 pub mod Meant
+pub mod Bodies
+pub mod Lookups
 pub mod OneInstance
 pub mod Worked
+pub mod BodyLabels
+pub mod Settings
+pub mod Valued
+pub mod Numbered
+pub mod Operands

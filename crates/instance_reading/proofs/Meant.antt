@@ -41,7 +41,7 @@ both true b e d = d
 both false b e d = cc
 
 -- the field of a field operand is one of those
-field_there : (kinds : List OperandKind) (j : ℕ) (kind : OperandKind) (f : ℕ) → slice_get kinds j ≡ Some kind → kind_field kind ≡ Some f → Contains (filter_map kind_field kinds) f
+pub field_there : (kinds : List OperandKind) (j : ℕ) (kind : OperandKind) (f : ℕ) → slice_get kinds j ≡ Some kind → kind_field kind ≡ Some f → Contains (filter_map kind_field kinds) f
 field_there [] j kind f e d = cc
 field_there (k ∷ kinds) zero kind f e d =
     let same : k ≡ kind = cc in
