@@ -1,0 +1,4 @@
+pub mod Disassembly
+pub mod Laws
+pub mod Ready
+pub mod Example

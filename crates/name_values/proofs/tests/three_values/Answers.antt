@@ -1,0 +1,13 @@
+use Rattle.std.proofs.Common.{sym, subst, ◌∙◌}
+use Rattle.match_meaning.specs.Readable.{IsReadableSpec}
+use Rattle.name_values.proofs.Worked.{no_choices}
+use Rattle.name_values.proofs.tests.three_values.Goals as goal
+
+pub plans_of-requires : goal.plans_of-requires
+plans_of-requires c = subst IsReadableSpec (sym c.in_ok-spec.ensures) c.example_row.ensures.0
+
+pub values-requires-clause-readable : goal.values-requires-clause-readable
+values-requires-clause-readable c = subst IsReadableSpec (sym c.in_ok-spec.ensures) c.example_row.ensures.0
+
+pub values-requires-clause-results : goal.values-requires-clause-results
+values-requires-clause-results c = no_choices c.in_ok-spec.spec c.as_slice-entries.result.now (c.as_slice-entries.ensures ∙ c.in_ok-bound.ensures)
