@@ -5,7 +5,6 @@ use Rattle.sled_parser.specs.declared.tree.FieldTree.{FieldTree}
 use Rattle.sled_parser.specs.declared.tree.Decl.{Decl}
 use Rattle.sled_parser.specs.declared.tree.Decl.TheVariants as decl
 use Rattle.tree_meaning.proofs.ListLemmas.{drop-here, take-here}
-use Rattle.sled_elab.specs.declared.lack.Lack.{Lack}
 use Rattle.sled_elab.specs.Conditions.{IsLackOf, IsFirstLackFrom, next_number}
 use Rattle.sled_elab.specs.Declarations.{Described}
 use Rattle.sled_elab.specs.Elaboration.{after}
@@ -30,7 +29,7 @@ module _ (decls : List Decl) (i : ℕ) (x : Decl) (here : i < length decls) (is 
       made ∙ ap (λ d. after d x) before ∙ sym (fold_push after start (take i decls) x) ∙ ap (fold after start) (sym (take-here decls i x here is))
 
   -- a declaration that lacks nothing is passed
-  pub lack_past : (n m : ℕ) (old new : Described) (first : Option (ℕ × Lack)) → new ≡ after old x → m ≡ next_number n x → IsLackOf old x None
+  pub lack_past : (n m : ℕ) (old new : Described) (first : Option (ℕ × ℕ)) → new ≡ after old x → m ≡ next_number n x → IsLackOf old x None
       → IsFirstLackFrom m new (drop (i + 1) decls) first → IsFirstLackFrom n old (drop i decls) first
   lack_past n m old new first made next none later =
       let rest = drop (i + 1) decls in
@@ -39,7 +38,7 @@ module _ (decls : List Decl) (i : ℕ) (x : Decl) (here : i < length decls) (is 
       subst (λ ds. IsFirstLackFrom n old ds first) (sym from_here) (None, none, over)
 
   -- one that lacks something is the first
-  pub lack_here : (n : ℕ) (old : Described) (lack : Lack) → IsLackOf old x (Some lack) → IsFirstLackFrom n old (drop i decls) (Some (n, lack))
+  pub lack_here : (n : ℕ) (old : Described) (lack : ℕ) → IsLackOf old x (Some lack) → IsFirstLackFrom n old (drop i decls) (Some (n, lack))
   lack_here n old lack lacks = subst (λ ds. IsFirstLackFrom n old ds (Some (n, lack))) (sym from_here) (Some lack, lacks, refl)
 
 -- behind the last there is none

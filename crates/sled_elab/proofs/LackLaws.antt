@@ -1,6 +1,6 @@
 -- What a declaration lacks is one answer at most, and so is what the first lacks.
 use Rattle.std.proofs.Common.{◌≡◌, ℕ, ◌⊎◌, inl, inr, List, [], ◌∷◌, All, Some, None, refl, sym, ap, ◌∙◌}
-use Rattle.std.specs.Prelude.{Option, option_map}
+use Rattle.std.specs.Prelude.{Option}
 use Rattle.sled_parser.specs.declared.tree.Decl.{Decl}
 use Rattle.sled_parser.specs.declared.tree.Decl.TheVariants as decl
 use Rattle.token_bits.specs.declared.tokens.Tokens.{Tokens}
@@ -12,8 +12,6 @@ use Rattle.constructor_meaning.specs.Constructing.{Constructing}
 use Rattle.constructor_meaning.specs.Unmet.{first_unmet}
 use Rattle.constructor_building.specs.Building.{constructors_of}
 use Rattle.constructor_plans.specs.Plans.{ArePlansUnmet}
-use Rattle.sled_elab.specs.declared.lack.Lack.{Lack}
-use Rattle.sled_elab.specs.declared.lack.Lack.TheVariants.{Condition}
 use Rattle.sled_elab.specs.Conditions.{unmet_made, IsUnmetMade, IsUnmetBehind, IsUnmetOf, IsLackOf, IsFirstOr, IsFirstLackFrom, IsDescriptionLack, next_number}
 use Rattle.sled_elab.specs.Declarations.{Described, constructor_tree, nothing}
 use Rattle.sled_elab.specs.Elaboration.{after}
@@ -46,30 +44,30 @@ behind_one : (d : Described) (c : Constructing) (first a b : Option ℕ) → IsU
 behind_one d c None a b h g = made_one d c a b h g
 behind_one d c (Some n) a b h g = h ∙ sym g
 
-pub lack_one : (d : Described) (x : Decl) (a b : Option Lack) → IsLackOf d x a → IsLackOf d x b → a ≡ b
+pub lack_one : (d : Described) (x : Decl) (a b : Option ℕ) → IsLackOf d x a → IsLackOf d x b → a ≡ b
 lack_one d (decl.Class name width little fields) a b h g = h ∙ sym g
 lack_one d (decl.Heading section) a b h g = h ∙ sym g
 lack_one d (decl.Definition name items tree) a b h g = h ∙ sym g
 lack_one d (decl.ConstructorDecl opcode operands makes equations body) a b h g =
     let c = constructor_tree opcode operands makes equations body in
-    h.2 ∙ ap (option_map Condition) (behind_one d c (first_unmet (constructor_conditions d.spec d.declared c)) h.0 g.0 h.1 g.1) ∙ sym g.2
+    behind_one d c (first_unmet (constructor_conditions d.spec d.declared c)) a b h g
 
 -- ---- all of them
 
-first_case : (n : ℕ) (a b : Option Lack) (p q : Option (ℕ × Lack)) (later : Option (ℕ × Lack) → Type 0) → ((r s : Option (ℕ × Lack)) → later r → later s → r ≡ s) → a ≡ b
+first_case : (n : ℕ) (a b : Option ℕ) (p q : Option (ℕ × ℕ)) (later : Option (ℕ × ℕ) → Type 0) → ((r s : Option (ℕ × ℕ)) → later r → later s → r ≡ s) → a ≡ b
     → IsFirstOr n a p (later p) → IsFirstOr n b q (later q) → p ≡ q
 first_case n None None p q later one same h g = one p q h g
 first_case n None (Some l) p q later one same h g = cc
 first_case n (Some k) None p q later one same h g = cc
 first_case n (Some k) (Some l) p q later one same h g =
     let e : k ≡ l = cc in
-    h ∙ ap (λ (x : Lack). Some (n, x)) e ∙ sym g
+    h ∙ ap (λ (x : ℕ). Some (n, x)) e ∙ sym g
 
-first_one : (n : ℕ) (d : Described) (xs : List Decl) (p q : Option (ℕ × Lack)) → IsFirstLackFrom n d xs p → IsFirstLackFrom n d xs q → p ≡ q
+first_one : (n : ℕ) (d : Described) (xs : List Decl) (p q : Option (ℕ × ℕ)) → IsFirstLackFrom n d xs p → IsFirstLackFrom n d xs q → p ≡ q
 first_one n d [] p q h g = h ∙ sym g
 first_one n d (x ∷ xs) p q h g =
     first_case n h.0 g.0 p q (IsFirstLackFrom (next_number n x) (after d x) xs) (λ r s. first_one (next_number n x) (after d x) xs r s) (lack_one d x h.0 g.0 h.1 g.1) h.2 g.2
 
 -- declarations have one first that lacks something, or none
-pub description_lack_one : (decls : List Decl) (p q : Option (ℕ × Lack)) → IsDescriptionLack decls p → IsDescriptionLack decls q → p ≡ q
+pub description_lack_one : (decls : List Decl) (p q : Option (ℕ × ℕ)) → IsDescriptionLack decls p → IsDescriptionLack decls q → p ≡ q
 description_lack_one decls p q h g = first_one 1 nothing decls p q h g

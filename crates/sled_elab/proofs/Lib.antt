@@ -1,10 +1,7 @@
-pub mod ActionLemmas
 pub mod Growing
 pub mod DescriptionLemmas
 pub mod ClassLemmas
 pub mod FormLemmas
-pub mod ArmLemmas
-pub mod StatementLemmas
 pub mod DefinitionLemmas
 pub mod DefinitionSound
 pub mod DeclarationLemmas
@@ -13,3 +10,4 @@ pub mod TableLemmas
 pub mod LackLaws
 pub mod MadeConstructors
 pub mod ConstructorLemmas
+mod Readings

@@ -1,5 +1,5 @@
--- What a description and a statement have to meet, in the order of the conditions' numbers, and the first that they lack.
-use Rattle.std.specs.Prelude.{◌≡◌, ℕ, ◌+◌, Bool, not, ◌&&◌, ◌||◌, ◌==◌, nat_le, nat_lt, List, [], ◌∷◌, ◌++◌, length, Option, Some, None, is_some, option_map, if◌then◌else◌}
+-- What a description has to meet, in the order of the conditions' numbers, and the first condition that its declarations lack.
+use Rattle.std.specs.Prelude.{◌≡◌, ℕ, ◌+◌, Bool, not, ◌&&◌, ◌||◌, ◌==◌, nat_le, nat_lt, List, [], ◌∷◌, ◌++◌, length, Option, Some, None, if◌then◌else◌}
 use Rattle.std.specs.List.{list_all}
 use Rattle.sled_lexer.specs.Spelled.{number_value}
 use Rattle.sled_parser.specs.declared.tree.Decl.{Decl}
@@ -7,35 +7,22 @@ use Rattle.sled_parser.specs.declared.tree.Decl.TheVariants as decl
 use Rattle.sled_parser.specs.declared.tree.FieldTree.{FieldTree}
 use Rattle.sled_parser.specs.declared.tree.ItemTree.{ItemTree}
 use Rattle.sled_parser.specs.declared.tree.PatternTree.{PatternTree}
-use Rattle.sled_parser.specs.declared.tree.ArmTree.{ArmTree}
-use Rattle.sled_parser.specs.declared.tree.ArmsTree.{ArmsTree}
-use Rattle.sled_parser.specs.declared.tree.ArmsTree.TheVariants as arms
-use Rattle.sled_parser.specs.declared.tree.MatchTree.{MatchTree}
 use Rattle.sled_model.specs.declared.pattern.Pattern.{Pattern}
 use Rattle.sled_model.specs.declared.spec.Spec.{Spec}
-use Rattle.sled_model.specs.Shapes.{spec_shapes, shapes, conjunctions_agree, chains_are_closed, are_closed, sides_have_one_shape, lengths_within}
-use Rattle.sled_model.specs.Measures.{pattern_weight, pattern_size, pattern_len}
+use Rattle.sled_model.specs.Shapes.{spec_shapes, conjunctions_agree, chains_are_closed, sides_have_one_shape}
 use Rattle.tree_meaning.specs.Names.{are_distinct, are_new}
 use Rattle.tree_meaning.specs.Scopes.{Declared}
-use Rattle.tree_meaning.specs.Parts.{are_known, numbers_fit, generates_nothing, applies_nothing}
+use Rattle.tree_meaning.specs.Parts.{are_known, numbers_fit, generates_nothing}
 use Rattle.tree_meaning.specs.declared.parts.Site.TheVariants as site
-use Rattle.tree_meaning.specs.Bindings.{bound, binds_once, sides_bind_alike, sides_bind_nothing, are_none}
+use Rattle.tree_meaning.specs.Bindings.{bound, sides_bind_nothing, are_none}
 use Rattle.tree_meaning.specs.Patterns.{patterns_of}
 use Rattle.constructor_meaning.specs.Conditions.{bodies, measure_conditions, conditions as constructor_conditions}
 use Rattle.constructor_meaning.specs.Constructing.{Constructing}
 use Rattle.constructor_meaning.specs.Unmet.{first_unmet}
 use Rattle.constructor_building.specs.Building.{constructors_of}
 use Rattle.constructor_plans.specs.Plans.{ArePlansUnmet}
-use Rattle.sled_elab.specs.declared.lack.Lack.{Lack}
-use Rattle.sled_elab.specs.declared.lack.Lack.TheVariants.{Condition, NotBuilt}
-use Rattle.sled_elab.specs.Actions.{unquoted, action_pieces}
 use Rattle.sled_elab.specs.Declarations.{Described, nothing, class_names, definition_names, item_names, labels_are_new, constructor_tree}
 use Rattle.sled_elab.specs.Elaboration.{after}
-use Rattle.sled_elab.specs.Statements.{arm_names, arm_pattern}
-
--- what is lacking where a condition is unmet
-abbrev pub unmet_lack : List (ℕ × Bool) → Option Lack
-unmet_lack conditions = option_map Condition (first_unmet conditions)
 
 -- ---- conditions of declarations
 
@@ -115,106 +102,31 @@ IsUnmetBehind d c (Some n) unmet = unmet ≡ Some n
 abbrev pub IsUnmetOf : Described → Constructing → Option ℕ → Type 0
 IsUnmetOf d c unmet = IsUnmetBehind d c (first_unmet (constructor_conditions d.spec d.declared c)) unmet
 
--- ---- what a declaration lacks, over those before it
+-- ---- the first condition that a declaration lacks, over those before it
 
-abbrev pub IsLackOf : Described → Decl → Option Lack → Type 0
-IsLackOf d (decl.Class name width little fields) lack = lack ≡ unmet_lack (class_conditions d name width fields)
+abbrev pub IsLackOf : Described → Decl → Option ℕ → Type 0
+IsLackOf d (decl.Class name width little fields) lack = lack ≡ first_unmet (class_conditions d name width fields)
 IsLackOf d (decl.Heading section) lack = lack ≡ None
-IsLackOf d (decl.Definition name items tree) lack = lack ≡ unmet_lack (definition_conditions d name items tree)
-IsLackOf d (decl.ConstructorDecl opcode operands makes equations body) lack =
-    (unmet : Option ℕ) × IsUnmetOf d (constructor_tree opcode operands makes equations body) unmet × (lack ≡ option_map Condition unmet)
-
--- ---- conditions of arms
-
--- condition 7 of an arm: it has no loose end besides. `case x = 1` meets it, `case x = 1 ...` does not.
-abbrev pub is_closed_arm : Spec → Pattern → Bool
-is_closed_arm spec p = chains_are_closed (spec_shapes spec) p && are_closed (shapes (spec_shapes spec) p)
-
--- condition 14, lengths: each alternative has 1 to 32 bytes, and so the longest has no more. `case x = 1` meets it, `case epsilon` does
--- not.
-abbrev pub has_lengths : Spec → Pattern → Bool
-has_lengths spec p = lengths_within 1 32 spec.tokens (shapes (spec_shapes spec) p) && nat_le (pattern_len spec p) 32
-
--- condition 15, weights and sizes: the weight is at most 4,096 and with those of the arms before at most 16,384, and the size is at
--- most 256
-abbrev pub has_measure : Spec → ℕ → Pattern → Bool
-has_measure spec before p = nat_le (pattern_weight spec p) 4096 && nat_le (pattern_size spec p) 256 && nat_le (before + pattern_weight spec p) 16384
-
--- condition 16, an action names what is bound: `x => "{x}"` meets it, `x = 1 => "{x}"` and `x => "{"` do not
-abbrev pub action_is_bound : Declared → ArmTree → Bool
-action_is_bound declared arm = is_some (action_pieces (arm_names declared arm) (unquoted arm.action))
-
-abbrev pub arm_naming_conditions : Spec → Declared → PatternTree → List (ℕ × Bool)
-arm_naming_conditions spec declared tree =
-    (1, labels_are_new declared tree)
-    ∷ (2, are_known site.Arm declared tree)
-    ∷ (4, numbers_fit spec.tokens declared tree)
-    ∷ (5, generates_nothing tree)
-    ∷ []
-
--- of the pattern p that the tree stands for, where the arms before weigh so much: in an arm the sides of a disjunction bind the same
--- names (condition 8), and no name is bound twice in an alternative (condition 9)
-abbrev pub arm_forming_conditions : Spec → Declared → ℕ → PatternTree → Pattern → List (ℕ × Bool)
-arm_forming_conditions spec declared before tree p =
-    (6, conjunctions_agree (spec_shapes spec) p)
-    ∷ (7, is_closed_arm spec p)
-    ∷ (8, sides_bind_alike declared tree)
-    ∷ (9, binds_once declared tree)
-    ∷ (14, has_lengths spec p)
-    ∷ (15, has_measure spec before p)
-    ∷ []
-
-abbrev pub arm_conditions : Spec → Declared → ℕ → ArmTree → List (ℕ × Bool)
-arm_conditions spec declared before arm =
-    arm_naming_conditions spec declared arm.pattern
-    ++ (arm_forming_conditions spec declared before arm.pattern (arm_pattern declared arm) ++ (16, action_is_bound declared arm) ∷ [])
-
--- what an arm lacks: applications are not built
-abbrev pub arm_lack : Spec → Declared → ℕ → ArmTree → Option Lack
-arm_lack spec declared before arm =
-    if applies_nothing arm.pattern then unmet_lack (arm_conditions spec declared before arm) else Some NotBuilt
-
--- condition 14 of the tail: a skip has 1 to 32 bytes
-abbrev pub skip_lack : Option (List ℕ) → Option Lack
-skip_lack None = None
-skip_lack (Some n) = if nat_le 1 (number_value n) && nat_le (number_value n) 32 then None else Some (Condition 14)
+IsLackOf d (decl.Definition name items tree) lack = lack ≡ first_unmet (definition_conditions d name items tree)
+IsLackOf d (decl.ConstructorDecl opcode operands makes equations body) lack = IsUnmetOf d (constructor_tree opcode operands makes equations body) lack
 
 -- ---- the first that lacks something, by its number
-
-abbrev pub first_lack : ℕ → Option Lack → Option (ℕ × Lack) → Option (ℕ × Lack)
-first_lack n None later = later
-first_lack n (Some l) later = Some (n, l)
 
 -- a heading has no number
 abbrev pub next_number : ℕ → Decl → ℕ
 next_number n (decl.Heading section) = n
 next_number n _ = n + 1
 
--- number n with what it lacks, where it lacks something, or else what is the first later
-abbrev pub IsFirstOr : ℕ → Option Lack → Option (ℕ × Lack) → Type 0 → Type 0
+-- number n with the condition that it lacks, where it lacks one, or else what is the first later
+abbrev pub IsFirstOr : ℕ → Option ℕ → Option (ℕ × ℕ) → Type 0 → Type 0
 IsFirstOr n None first later = later
 IsFirstOr n (Some l) first later = first ≡ Some (n, l)
 
--- the first that lacks something from declaration number n on, each over those before it
-abbrev pub IsFirstLackFrom : ℕ → Described → List Decl → Option (ℕ × Lack) → Type 0
+-- the first that lacks a condition from declaration number n on, each over those before it
+abbrev pub IsFirstLackFrom : ℕ → Described → List Decl → Option (ℕ × ℕ) → Type 0
 IsFirstLackFrom n d [] first = first ≡ None
-IsFirstLackFrom n d (x ∷ xs) first = (lack : Option Lack) × IsLackOf d x lack × IsFirstOr n lack first (IsFirstLackFrom (next_number n x) (after d x) xs first)
+IsFirstLackFrom n d (x ∷ xs) first = (lack : Option ℕ) × IsLackOf d x lack × IsFirstOr n lack first (IsFirstLackFrom (next_number n x) (after d x) xs first)
 
--- the first declaration that lacks something, and what it lacks
-abbrev pub IsDescriptionLack : List Decl → Option (ℕ × Lack) → Type 0
+-- the first declaration that lacks a condition, and which
+abbrev pub IsDescriptionLack : List Decl → Option (ℕ × ℕ) → Type 0
 IsDescriptionLack decls first = IsFirstLackFrom 1 nothing decls first
-
--- from arm number n on, where those before it weigh so much; the tail counts as the arm past the last
-abbrev pub arms_lack : Spec → Declared → ℕ → ℕ → List ArmTree → Option (List ℕ) → Option (ℕ × Lack)
-arms_lack spec declared n before [] skip = first_lack n (skip_lack skip) None
-arms_lack spec declared n before (arm ∷ arms) skip =
-    first_lack n (arm_lack spec declared before arm)
-    (arms_lack spec declared (n + 1) (before + pattern_weight spec (arm_pattern declared arm)) arms skip)
-
-abbrev pub listed_lack : Spec → Declared → ArmsTree → Option (List ℕ) → Option (ℕ × Lack)
-listed_lack spec declared arms.All skip = Some (1, NotBuilt)
-listed_lack spec declared (arms.Listed as_they_stand) skip = arms_lack spec declared 1 0 as_they_stand skip
-
--- the first arm that lacks something, and what it lacks: `all` is not built, and counts as arm 1
-abbrev pub statement_lack : Spec → Declared → MatchTree → Option (ℕ × Lack)
-statement_lack spec declared tree = listed_lack spec declared tree.arms tree.skip

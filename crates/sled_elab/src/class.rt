@@ -1,6 +1,7 @@
 // A token class and its fields.
 ghost use Rattle.std.specs.Prelude.{◌≡◌, ◌<◌, None, true, false, map, IfOk, OnOk, if◌then◌else◌};
 ghost use Rattle.std.specs.List.{list_all};
+ghost use Rattle.constructor_meaning.specs.Unmet.{first_unmet};
 ghost use Rattle.sled_elab.specs.Conditions as of;
 ghost use Rattle.sled_elab.specs.Declarations.{class_names as class_names_of, with_class, with_field, field_of, class_of};
 ghost use Rattle.sled_elab.specs.Descriptions.{described_in, IsSound};
@@ -10,7 +11,6 @@ ghost use Rattle.tree_meaning.specs.Names.{is_among};
 ghost use Rattle.tree_meaning.specs.Scopes.{declared_in};
 
 use crate::description::Description;
-use crate::lack::Lack;
 use sled_base::NoMemory;
 use sled_lexer::{number_in_range, number_value};
 use sled_model::Name;
@@ -27,18 +27,18 @@ pub fn declare_class<'a>(
     width: &Spelling,
     little: bool,
     fields: &'a FieldTreeList,
-) -> Result<Option<Lack>, NoMemory>
+) -> Result<Option<u8>, NoMemory>
     requires { IsSound (described_in description.old) }
-    ensures lack { IfOk result (λ lack. lack ≡ of.unmet_lack (of.class_conditions (described_in description.old) name.now width.now fields.now)) }
+    ensures lack { IfOk result (λ lack. lack ≡ first_unmet (of.class_conditions (described_in description.old) name.now width.now fields.now)) }
     ensures made { IfOk result (λ lack. lack ≡ None → described_in description.new ≡ with_class (described_in description.old) name.now width.now little fields.now) }
     ensures sound { IfOk result (λ lack. lack ≡ None → IsSound (described_in description.new)) }
 {
     let (name, fields) = (name.as_slice(), fields.as_slice());
     if !declares_once(alloc, &description.scope, name, fields)? {
-        return Ok(Some(Lack::Condition(1)));
+        return Ok(Some(1));
     }
     if !has_widths(width.as_slice(), fields) {
-        return Ok(Some(Lack::Condition(3)));
+        return Ok(Some(3));
     }
     add_class(alloc, description, name, width.as_slice(), little, fields)?;
     Ok(None)

@@ -1,7 +1,7 @@
 // What declarations make, one after another.
-ghost use Rattle.std.specs.Prelude.{◌≡◌, ◌<◌, ◌^◌, All, None, IfOk, IfErr, option_map};
+ghost use Rattle.std.specs.Prelude.{◌≡◌, ◌<◌, ◌^◌, All, None, IfOk, IfErr};
 ghost use Rattle.sled_elab.specs.Conditions.{IsLackOf, IsDescriptionLack, next_number as next_number_of};
-ghost use Rattle.sled_elab.specs.Descriptions.{described_in, HasNumbersInRange, HasPlainNames, IsSound};
+ghost use Rattle.sled_elab.specs.Descriptions.{described_in, HasNumbersInRange, HasPlainNames, IsReadOnce, IsSound};
 ghost use Rattle.sled_elab.specs.Elaboration.{after, described, spec_of};
 ghost use Rattle.sled_elab.specs.Refusals.{IsRefusedBy};
 ghost use Rattle.tree_meaning.specs.Scopes.{declared_in};
@@ -11,7 +11,7 @@ use crate::class::declare_class;
 use crate::constructor::declare_constructor;
 use crate::definition::declare_definition;
 use crate::description::Description;
-use crate::lack::{ElabFault, Lack};
+use crate::fault::ElabFault;
 use constructor_meaning::ConstructorTree;
 use sled_base::NoMemory;
 use sled_model::Spec;
@@ -20,12 +20,13 @@ use std::alloc::Global;
 use tree_meaning::Scope;
 use type_tables::TypeTable;
 
-/// The description that the declarations make, with what its names stand for, or the first declaration that lacks something. Each
+/// The description that the declarations make, with what its names stand for, or the first declaration that lacks a condition. Each
 /// Number in the trees is at most 4,294,967,295.
 pub fn describe<'a>(alloc: Global, decls: &'a [Decl]) -> Result<Description<'a>, ElabFault>
     requires { All HasNumbersInRange decls.now }
     ensures made { IfOk result (λ d. described_in d ≡ described decls.now) }
     ensures sound { IfOk result (λ d. IsSound (described_in d)) }
+    ensures read { IfOk result (λ d. IsReadOnce d.spec) }
     ensures met { IfOk result (λ _. IsDescriptionLack decls.now None) }
     ensures refused { IfErr result (IsRefusedBy (IsDescriptionLack decls.now)) }
 {
@@ -34,14 +35,17 @@ pub fn describe<'a>(alloc: Global, decls: &'a [Decl]) -> Result<Description<'a>,
     let mut number = 1;
     for decl in decls {
         if let Some(lack) = declare(alloc, &mut description, &mut types, decl)? {
-            return Err(ElabFault::Lacks { number, lack });
+            return Err(ElabFault::Unmet {
+                declaration: number,
+                condition: lack,
+            });
         }
         number = next_number(number, decl);
     }
     Ok(description)
 }
 
-/// The description that the declarations make, or the first of them that lacks something: as `describe`.
+/// The description that the declarations make, or the first of them that lacks a condition: as `describe`.
 pub fn elaborate(alloc: Global, decls: &[Decl]) -> Result<Spec, ElabFault>
     requires { All HasNumbersInRange decls.now }
     ensures made { IfOk result (λ spec. spec ≡ spec_of decls.now) }
@@ -77,13 +81,13 @@ fn next_number(number: u64, decl: &Decl) -> u64
     }
 }
 
-// Adds what the declaration declares, or answers what it lacks.
+// Adds what the declaration declares, or answers the first condition that it lacks.
 fn declare<'a>(
     alloc: Global,
     description: &mut Description<'a>,
     types: &mut TypeTable,
     decl: &'a Decl,
-) -> Result<Option<Lack>, NoMemory>
+) -> Result<Option<u8>, NoMemory>
     requires sound { IsSound (described_in description.old) }
     requires plain { HasPlainNames (described_in description.old).declared }
     requires types { IsTableOf description.old.spec types.old }
@@ -120,18 +124,7 @@ fn declare<'a>(
                 equations,
                 body,
             };
-            let unmet = declare_constructor(alloc, description, types, &tree)?;
-            Ok(lack_of(unmet))
+            declare_constructor(alloc, description, types, &tree)
         }
-    }
-}
-
-// What is lacking where a condition is unmet.
-fn lack_of(unmet: Option<u8>) -> Option<Lack>
-    ensures { result ≡ option_map Lack.Condition unmet }
-{
-    match unmet {
-        Some(condition) => Some(Lack::Condition(condition)),
-        None => None,
     }
 }

@@ -18,7 +18,6 @@ ghost use Rattle.tree_meaning.specs.Sound.{IsSoundMeaning};
 use crate::description::Description;
 use crate::first::first_of;
 use crate::form::spec_form;
-use crate::lack::Lack;
 use sled_base::NoMemory;
 use sled_model::{Pattern, PatternList, Spec};
 use sled_parser::tree::{ItemTree, ItemTreeList, PatternTree};
@@ -36,19 +35,19 @@ pub fn declare_definition<'a>(
     name: &'a [u8],
     items: &'a Option<ItemTreeList>,
     tree: &'a PatternTree,
-) -> Result<Option<Lack>, NoMemory>
+) -> Result<Option<u8>, NoMemory>
     requires sound { IsSound (described_in description.old) }
     requires numbers { has_all_in_range tree.now ≡ true }
-    ensures lack { IfOk result (λ lack. lack ≡ of.unmet_lack (of.definition_conditions (described_in description.old) name.now items.now tree.now)) }
+    ensures lack { IfOk result (λ lack. lack ≡ first_unmet (of.definition_conditions (described_in description.old) name.now items.now tree.now)) }
     ensures made { IfOk result (λ lack. lack ≡ None → described_in description.new ≡ make.with_definition (described_in description.old) name.now items.now tree.now) }
     ensures sound { IfOk result (λ lack. lack ≡ None → IsSound (described_in description.new)) }
 {
     if let Some(condition) = unmet_naming(alloc, description, name, items, tree)? {
-        return Ok(Some(Lack::Condition(condition)));
+        return Ok(Some(condition));
     }
     let patterns = patterns_of(alloc, &description.scope, &NameTable::new(alloc), tree)?;
     if let Some(condition) = unmet_forming(alloc, description, tree, patterns.as_slice())? {
-        return Ok(Some(Lack::Condition(condition)));
+        return Ok(Some(condition));
     }
     add_patterns(alloc, &mut description.scope, name, items, patterns)?;
     Ok(None)

@@ -1,9 +1,9 @@
-// A description and a statement from trees. Texts are tried where the program stands whole.
+// Descriptions from trees. Texts are tried where the program stands whole.
 ghost use Rattle.std.specs.Prelude.{◌≡◌, IfOk};
-ghost use Rattle.sled_elab.specs.Descriptions.{HasNumbersInRange, HaveArmsInRange};
+ghost use Rattle.sled_elab.specs.Descriptions.{HasNumbersInRange};
 
-use crate::{ElabFault, Lack, elaborate, elaborate_match, scope_of};
-use sled_parser::tree::{ArmsTree, Decl, FieldTree, FieldTreeList, MatchTree, Spelling};
+use crate::{ElabFault, elaborate, scope_of};
+use sled_parser::tree::{Decl, FieldTree, FieldTreeList, Spelling};
 use std::alloc::Global;
 use std::test::Fail;
 
@@ -25,7 +25,7 @@ fn class(alloc: Global, hi: &[u8]) -> Result<Decl, Fail>
 }
 
 #[test]
-fn a_class_its_scope_and_all_arms(rt: HostRuntime) -> Result<(), Fail> {
+fn a_class_and_its_scope(rt: HostRuntime) -> Result<(), Fail> {
     let alloc = rt.alloc();
     let decls = [class(alloc, b"7")?];
     let Ok(spec) = elaborate(alloc, &decls) else {
@@ -35,27 +35,15 @@ fn a_class_its_scope_and_all_arms(rt: HostRuntime) -> Result<(), Fail> {
     let scope = scope_of(alloc, &decls, &spec)?;
     assert!(rt; scope.find(b"b").is_some());
     assert!(rt; scope.field_named(b"x").is_some());
-    let tree = MatchTree {
-        arms: ArmsTree::All,
-        skip: None,
-    };
-    let unbuilt = ElabFault::Lacks {
-        number: 1,
-        lack: Lack::NotBuilt,
-    };
-    assert_eq!(rt;
-        elaborate_match(alloc, &spec, &scope, &tree).err(),
-        Some(unbuilt)
-    );
     Ok(())
 }
 
 #[test]
 fn a_field_past_its_class(rt: HostRuntime) -> Result<(), Fail> {
     let alloc = rt.alloc();
-    let lacks = ElabFault::Lacks {
-        number: 1,
-        lack: Lack::Condition(3),
+    let lacks = ElabFault::Unmet {
+        declaration: 1,
+        condition: 3,
     };
     assert_eq!(rt; elaborate(alloc, &[class(alloc, b"8")?]).err(), Some(lacks));
     Ok(())

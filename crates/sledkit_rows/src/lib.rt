@@ -2,6 +2,10 @@
 #![tactic(auto)]
 
 #[cfg(test)]
+mod application_tests;
+#[cfg(test)]
+mod graph_tests;
+#[cfg(test)]
 mod machines;
 #[cfg(test)]
 mod outside;

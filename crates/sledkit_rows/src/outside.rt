@@ -48,7 +48,7 @@ pub(crate) fn sound<'a>(spec: &'a str, matching: &'a str, input: &'a [u8]) -> Ou
         shelf_fails: &[],
         input_fails: &[],
         out_fails: &[],
-        room: 200,
+        room: 800,
         notes_fail: &[],
     }
 }

@@ -1,4 +1,6 @@
 // An input that comes in pieces, and one whose reads fail.
+use crate::application_tests::{ADDS, PROCEDURE, PROCEDURE_LINES};
+use crate::machines::{I486, SPARC};
 use crate::outside::{Outside, answer};
 use std::test::Fail;
 use toolkit_cli::Status;
@@ -25,22 +27,29 @@ fn an_input_in_pieces_is_listed_as_a_whole_one(rt: HostRuntime) -> Result<(), Fa
     let fives = [5; 3];
     let pieces: [&[u32]; 3] = [&ones, &fives, &[]];
     let lines = "00000000: 02000001  set 1\n00000004: 02000002  set 2\n00000008: 010203  .skip 3\n";
-    for sizes in pieces {
-        let outside = Outside {
-            spec: SPEC,
-            matching: SET_OR_SKIP,
-            input: SHORT,
-            sizes,
-            shelf_fails: &[],
-            input_fails: &[],
-            out_fails: &[],
-            room: 200,
-            notes_fail: &[],
-        };
-        let (found, out, notes) = answer(rt.alloc(), &["dis", "s", "m", "0"], &outside)?;
-        assert_eq!(rt; found, Status::Done);
-        assert_eq!(rt; out.bytes(), lines.as_bytes());
-        assert!(rt; notes.bytes().is_empty());
+    // SPEC, MATCH, the input; the output.
+    let rows: [(&str, &str, &[u8], &str); 2] = [
+        (SPEC, SET_OR_SKIP, SHORT, lines),
+        (I486, "match all", PROCEDURE, PROCEDURE_LINES),
+    ];
+    for (spec, matching, input, output) in rows {
+        for sizes in pieces {
+            let outside = Outside {
+                spec,
+                matching,
+                input,
+                sizes,
+                shelf_fails: &[],
+                input_fails: &[],
+                out_fails: &[],
+                room: 800,
+                notes_fail: &[],
+            };
+            let (found, out, notes) = answer(rt.alloc(), &["dis", "s", "m", "0"], &outside)?;
+            assert_eq!(rt; found, Status::Done);
+            assert_eq!(rt; out.bytes(), output.as_bytes());
+            assert!(rt; notes.bytes().is_empty());
+        }
     }
     Ok(())
 }
@@ -49,21 +58,35 @@ fn an_input_in_pieces_is_listed_as_a_whole_one(rt: HostRuntime) -> Result<(), Fa
 fn what_was_read_before_a_read_that_fails(rt: HostRuntime) -> Result<(), Fail> {
     let front = "00000000: 02000001  set 1\n00000004: 02000002  set 2\n00000008: 02000003  set 3\n";
     let first = "00000000: 02000001  set 1\n";
+    let added =
+        "00000000: 86006002  add(1, imode(2), 3)\n00000004: 86006002  add(1, imode(2), 3)\n00000008: 86006002  add(1, imode(2), 3)\n";
     let unread = "input: error 1: cannot be read\n";
     let refused = "input: error 9: no arm matches at 00000004\n";
     let sevens = [7; 6];
-    // The input, the sizes and the read that fails; the status, the output, the notes.
-    let rows: [(&[u8], &[u32], u64, Status, &str, &str); 5] = [
-        (TEN, &[], 3, Status::ReadFault, front, unread),
-        (TEN, &[], 2, Status::ReadFault, first, unread),
-        (TEN, &sevens, 7, Status::ReadFault, front, unread),
-        (TEN, &sevens, 5, Status::ReadFault, "", unread),
-        (TEN_REFUSED, &[], 3, Status::Refused(9), first, refused),
+    let words = (SPEC, SET);
+    let all = (SPARC, "match all");
+    // SPEC and MATCH, the input, the sizes and the read that fails; the status, the output, the notes.
+    let rows: [((&str, &str), &[u8], &[u32], u64, Status, &str, &str); 7] = [
+        (words, TEN, &[], 3, Status::ReadFault, front, unread),
+        (words, TEN, &[], 2, Status::ReadFault, first, unread),
+        (words, TEN, &sevens, 7, Status::ReadFault, front, unread),
+        (words, TEN, &sevens, 5, Status::ReadFault, "", unread),
+        (
+            words,
+            TEN_REFUSED,
+            &[],
+            3,
+            Status::Refused(9),
+            first,
+            refused,
+        ),
+        (all, ADDS, &[], 3, Status::ReadFault, added, unread),
+        (all, ADDS, &sevens, 7, Status::ReadFault, added, unread),
     ];
-    for (input, sizes, fails, status, output, told) in rows {
+    for ((spec, matching), input, sizes, fails, status, output, told) in rows {
         let outside = Outside {
-            spec: SPEC,
-            matching: SET,
+            spec,
+            matching,
             input,
             sizes,
             shelf_fails: &[],

@@ -23,9 +23,9 @@ const CLASSES_AND_GROUP: &str = "fields of b (8) x 0:3 y 4:7 fields of h (16) w 
 const USAGE: &str = "usage: sledkit dis SPEC MATCH BASE\n";
 
 // Arms of the greatest weight, 8 for each of four parts multiplied; the greatest sum of weights; and one more of each.
-const GREATEST_WEIGHTS: &str = "match case x != 0 ; x != 1 ; x != 2 ; x != 3 => \"a\"
-    case x != 0 ; x != 1 ; x != 2 ; x != 3 => \"b\" case x != 0 ; x != 1 ; x != 2 ; x != 3 => \"c\"
-    case x != 0 ; x != 1 ; x != 2 ; x != 3 => \"d\"";
+const GREATEST_WEIGHTS: &str = "match case x != 0 & x != 1 ; x != 2 & x != 3 => \"a\"
+    case x != 0 & x != 1 ; x != 2 & x != 3 => \"b\" case x != 0 & x != 1 ; x != 2 & x != 3 => \"c\"
+    case x != 0 & x != 1 ; x != 2 & x != 3 => \"d\"";
 
 const WEIGHT_ONE_TOO_HIGH: &str =
     "case x != 0 ; x != 1 ; x != 2 ; x != 3 | x = 0 ; x = 1 ; x = 2 ; x = 3 => \"a\"";
@@ -412,7 +412,7 @@ fn accepted_descriptions(rt: HostRuntime) -> Result<(), Fail> {
 fn refused_texts(rt: HostRuntime) -> Result<(), Fail> {
     let deep = "match case (((((((((((((((((((((((((((((((((((((((((((((((((((((((((((((((((";
     // SPEC, MATCH; the number and the notes.
-    let rows: [(&str, &str, u8, &str); 14] = [
+    let rows: [(&str, &str, u8, &str); 13] = [
         (
             "fields of w (32) x 0:7 $",
             "",
@@ -471,15 +471,9 @@ fn refused_texts(rt: HostRuntime) -> Result<(), Fail> {
         ),
         (
             SPEC,
-            "match all",
-            90,
-            "m: error 90: arm 1 is not built yet\n",
-        ),
-        (
-            SPEC,
             "match case k(a) => \"x\"",
-            90,
-            "m: error 90: arm 1 is not built yet\n",
+            8,
+            "m: error 8: arm 1 does not meet condition 2\n",
         ),
         (
             "constructors c() is y = 1",

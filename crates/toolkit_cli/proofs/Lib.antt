@@ -2,4 +2,5 @@ pub mod Addresses
 pub mod RangeLemmas
 pub mod TextLemmas
 pub mod StandsLemmas
+pub mod OneListing
 pub mod ReplyLaws

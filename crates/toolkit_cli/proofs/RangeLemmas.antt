@@ -40,7 +40,8 @@ use Rattle.tree_meaning.specs.Values.{is_in_range, has_numbers_in_range}
 use Rattle.tree_meaning.specs.Patterns.{has_part_in_range, has_all_in_range}
 use Rattle.tree_meaning.proofs.PartLemmas.{everywhere-Either, everywhere-Chain, everywhere-Both, everywhere-Labelled, everywhere-Loose, everywhere-Group}
 use Rattle.operand_meaning.specs.Terms.{is_place_in_range, is_term_in_range, is_equation_in_range, have_equations_in_range}
-use Rattle.sled_elab.specs.Descriptions.{HasNumbersInRange, HasArmInRange, HaveArmsInRange}
+use Rattle.sled_elab.specs.Descriptions.{HasNumbersInRange}
+use Rattle.statement_building.specs.Statements.{HasArmInRange, HaveArmsInRange}
 
 and_left : (s r : Bool) → (s && r) ≡ true → s ≡ true
 and_left true r e = refl

@@ -14,24 +14,26 @@ use Rattle.sled_parser.specs.Declarations.{IsDescription}
 use Rattle.sled_parser.specs.Statements.{IsStatement}
 use Rattle.sled_parser.proofs.OnlyDescription.{one_description}
 use Rattle.sled_parser.proofs.Only.{one_statement}
-use Rattle.sled_model.specs.declared.spec.Spec.{Spec}
 use Rattle.sled_model.specs.declared.statement.Statement.{Statement}
-use Rattle.sled_elab.specs.declared.lack.Lack.{Lack}
-use Rattle.sled_elab.specs.declared.lack.Lack.TheVariants as lack
+use Rattle.match_meaning.specs.Matchable.{IsMatchable}
+use Rattle.image_listing.specs.Listing.{Listing, Taking}
+use Rattle.disassembler.specs.Disassembly.{IsTakingOf}
+use Rattle.disassembler.proofs.Taken.{one_taking}
 use Rattle.sled_elab.specs.Conditions.{IsDescriptionLack}
 use Rattle.sled_elab.specs.Declarations.{Described}
 use Rattle.sled_elab.specs.Elaboration.{described}
-use Rattle.sled_elab.specs.Statements.{statement_of}
 use Rattle.sled_elab.proofs.LackLaws.{description_lack_one}
+use Rattle.statement_building.specs.Statements.{statement_of}
 use Rattle.toolkit_cli.specs.declared.messages.Unit.{Unit as Part}
 use Rattle.toolkit_cli.specs.declared.messages.Unit.TheVariants as part
 use Rattle.toolkit_cli.specs.declared.messages.Problem.{Problem}
 use Rattle.toolkit_cli.specs.declared.messages.Problem.TheVariants as problem
 use Rattle.toolkit_cli.specs.Words.{Words}
-use Rattle.toolkit_cli.specs.Texts.{IsLexed, IsParsed, IsNoSentence, NestsDeep, IsRefused, IsDescribed, RefusesDescription, IsLackOver, IsStated, RefusesStatement, lack_problem}
+use Rattle.toolkit_cli.specs.Texts.{IsLexed, IsParsed, IsNoSentence, NestsDeep, IsRefused, IsDescribed, RefusesDescription, IsLackOver, IsStated, RefusesStatement}
 use Rattle.std.specs.Option.{ForSome}
-use Rattle.toolkit_cli.specs.Reply.{Settled, Shelved, no_form, refused_text, accepted, SettlesDis, Settles, TellsTexts, Reply, reply}
+use Rattle.toolkit_cli.specs.Reply.{Settled, Shelved, no_form, refused_text, accepted, MakesBoth, SettlesDis, Settles, TellsTexts, Reply, reply, listing_reply}
 use Rattle.toolkit_cli.specs.Stands.{Answered}
+use Rattle.toolkit_cli.proofs.OneListing.{one_listing}
 
 -- ---- where the reading of a text ends
 
@@ -40,10 +42,10 @@ data Stage (T : Type 0) : Type 0 where
   fault : LexFault → Stage T
   deep : ℕ → Stage T
   no_sentence : Stage T
-  -- the tree, and the first of its parts that lacks something
-  read : T → Option (ℕ × Lack) → Stage T
+  -- the tree, and the first of its parts that does not meet a condition
+  read : T → Option (ℕ × ℕ) → Stage T
 
-abbrev EndsAt : {T : Type 0} → (Input → T → Type 0) → (T → Option (ℕ × Lack) → Type 0) → List ℕ → Stage T → Type 0
+abbrev EndsAt : {T : Type 0} → (Input → T → Type 0) → (T → Option (ℕ × ℕ) → Type 0) → List ℕ → Stage T → Type 0
 EndsAt IsTree Lacks text too_long = MAX_TEXT < length text
 EndsAt IsTree Lacks text (fault f) = (length text ≤ MAX_TEXT) × IsLexFault text f
 EndsAt IsTree Lacks text (deep place) = NestsDeep text place
@@ -56,9 +58,9 @@ lex_problem (lex.OpenText place) = Some (problem.OpenText place)
 lex_problem (lex.NumberTooBig place) = Some (problem.NumberTooBig place)
 lex_problem lex.NoMemory = None
 
-abbrev found_problem : Part → Option (ℕ × Lack) → Option Problem
+abbrev found_problem : Part → Option (ℕ × ℕ) → Option Problem
 found_problem unit None = None
-found_problem unit (Some (number, what)) = Some (lack_problem unit number what)
+found_problem unit (Some (number, condition)) = Some (problem.Unmet unit number condition)
 
 -- what a text is refused for that ends there
 abbrev stage_problem : {T : Type 0} → Part → Stage T → Option Problem
@@ -100,15 +102,15 @@ one_tree : {T : Type 0} (IsTree : Input → T → Type 0) → ((i : Input) (s t 
 one_tree IsTree only text s t a b =
     only (pieces text b.lexemes) s t (subst (λ (ls : List Lexeme). IsTree (pieces text ls) s) (one_lexed text a.lexemes b.lexemes a.lexed b.lexed) a.reads) b.reads
 
--- the trees are one, and so is the first that lacks something
-one_read : {T : Type 0} (Lacks : T → Option (ℕ × Lack) → Type 0) → ((t : T) (p q : Option (ℕ × Lack)) → Lacks t p → Lacks t q → p ≡ q) → (s t : T) (p q : Option (ℕ × Lack)) → s ≡ t → Lacks s p → Lacks t q
+-- the trees are one, and so is the first that does not meet a condition
+one_read : {T : Type 0} (Lacks : T → Option (ℕ × ℕ) → Type 0) → ((t : T) (p q : Option (ℕ × ℕ)) → Lacks t p → Lacks t q → p ≡ q) → (s t : T) (p q : Option (ℕ × ℕ)) → s ≡ t → Lacks s p → Lacks t q
     → read s p ≡ read t q
 one_read Lacks one s t p q same x y =
     let there : Lacks t p = subst (λ z. Lacks z p) same x in
     ap (λ z. read z p) same ∙ ap (read t) (one t p q there y)
 
-one_stage : {T : Type 0} (IsTree : Input → T → Type 0) → ((i : Input) (s t : T) → IsTree i s → IsTree i t → s ≡ t) → (Lacks : T → Option (ℕ × Lack) → Type 0)
-    → ((t : T) (p q : Option (ℕ × Lack)) → Lacks t p → Lacks t q → p ≡ q) → (text : List ℕ) (a b : Stage T) → EndsAt IsTree Lacks text a → EndsAt IsTree Lacks text b → a ≡ b
+one_stage : {T : Type 0} (IsTree : Input → T → Type 0) → ((i : Input) (s t : T) → IsTree i s → IsTree i t → s ≡ t) → (Lacks : T → Option (ℕ × ℕ) → Type 0)
+    → ((t : T) (p q : Option (ℕ × ℕ)) → Lacks t p → Lacks t q → p ≡ q) → (text : List ℕ) (a b : Stage T) → EndsAt IsTree Lacks text a → EndsAt IsTree Lacks text b → a ≡ b
 one_stage IsTree only Lacks one text too_long too_long x y = refl
 one_stage IsTree only Lacks one text too_long (fault g) x y = long_and_short text x y.0
 one_stage IsTree only Lacks one text too_long (deep q) x y = long_and_short text x y.lexed.short
@@ -137,12 +139,12 @@ one_stage IsTree only Lacks one text (read s p) (read t q) x y = one_read Lacks 
 
 -- ---- a refusal tells where the reading ends
 
-record IsEnd {T : Type 0} (IsTree : Input → T → Type 0) (Lacks : T → Option (ℕ × Lack) → Type 0) (unit : Part) (text : List ℕ) (found : Option Problem) : Type 0 where
+record IsEnd {T : Type 0} (IsTree : Input → T → Type 0) (Lacks : T → Option (ℕ × ℕ) → Type 0) (unit : Part) (text : List ℕ) (found : Option Problem) : Type 0 where
   pub stage : Stage T
   pub ends : EndsAt IsTree Lacks text stage
   pub is : stage_problem unit stage ≡ found
 
-module _ {T : Type 0} (IsTree : Input → T → Type 0) (Lacks : T → Option (ℕ × Lack) → Type 0) (unit : Part) (text : List ℕ) where
+module _ {T : Type 0} (IsTree : Input → T → Type 0) (Lacks : T → Option (ℕ × ℕ) → Type 0) (unit : Part) (text : List ℕ) where
   refused_end : (p : Problem) → IsRefused IsTree Lacks unit text p → IsEnd IsTree Lacks unit text (Some p)
   refused_end problem.Unread h = absurd h
   refused_end problem.TooLong h = record { stage = too_long; ends = h; is = refl }
@@ -152,19 +154,14 @@ module _ {T : Type 0} (IsTree : Input → T → Type 0) (Lacks : T → Option (�
   refused_end problem.Syntax h = record { stage = no_sentence; ends = h; is = refl }
   refused_end (problem.Nesting place) h = record { stage = deep place; ends = h; is = refl }
   refused_end (problem.Unmet what number condition) h = record {
-    stage = read h.1.tree (Some (number, lack.Condition condition));
+    stage = read h.1.tree (Some (number, condition));
     ends = (h.1.parsed, h.1.lack);
     is = ap (λ (w : Part). Some (problem.Unmet w number condition)) (sym h.0);
   }
   refused_end (problem.NoMatch address) h = absurd h
   refused_end (problem.AddressEnd address) h = absurd h
-  refused_end (problem.NotBuilt what number) h = record {
-    stage = read h.1.tree (Some (number, lack.NotBuilt));
-    ends = (h.1.parsed, h.1.lack);
-    is = ap (λ (w : Part). Some (problem.NotBuilt w number)) (sym h.0);
-  }
 
-  module _ (only : (i : Input) (s t : T) → IsTree i s → IsTree i t → s ≡ t) (one : (t : T) (p q : Option (ℕ × Lack)) → Lacks t p → Lacks t q → p ≡ q) where
+  module _ (only : (i : Input) (s t : T) → IsTree i s → IsTree i t → s ≡ t) (one : (t : T) (p q : Option (ℕ × ℕ)) → Lacks t p → Lacks t q → p ≡ q) where
     one_found : (x y : Option Problem) → IsEnd IsTree Lacks unit text x → IsEnd IsTree Lacks unit text y → x ≡ y
     one_found x y a b = sym a.is ∙ ap (stage_problem unit) (one_stage IsTree only Lacks one text a.stage b.stage a.ends b.ends) ∙ b.is
 
@@ -174,7 +171,7 @@ module _ {T : Type 0} (IsTree : Input → T → Type 0) (Lacks : T → Option (�
         let same : Some p ≡ Some q = one_found (Some p) (Some q) (refused_end p a) (refused_end q b) in
         cc
 
-    -- and none where it lacks nothing
+    -- and none where it meets all conditions
     pub whole_stands : (tree : T) (p : Problem) → IsParsed IsTree text tree → Lacks tree None → ¬ IsRefused IsTree Lacks unit text p
     whole_stands tree p parsed met h =
         let clash : None ≡ Some p = one_found None (Some p) (record { stage = read tree None; ends = (parsed, met); is = refl }) (refused_end p h) in
@@ -194,9 +191,9 @@ one_refusal_of_spec text p q x y = one_refusal IsDescription IsDescriptionLack p
 -- ---- statements over a description
 
 pub one_stated : (d : Described) (text : List ℕ) (a b : Statement) → IsStated d text a → IsStated d text b → a ≡ b
-one_stated d text a b x y = x.same ∙ ap (statement_of d.declared) (one_tree IsStatement one_statement text x.tree y.tree x.parsed y.parsed) ∙ sym y.same
+one_stated d text a b x y = x.same ∙ ap (statement_of d.spec d.declared) (one_tree IsStatement one_statement text x.tree y.tree x.parsed y.parsed) ∙ sym y.same
 
-lack_over_one : (d : Described) (tree : MatchTree) (p q : Option (ℕ × Lack)) → IsLackOver d tree p → IsLackOver d tree q → p ≡ q
+lack_over_one : (d : Described) (tree : MatchTree) (p q : Option (ℕ × ℕ)) → IsLackOver d tree p → IsLackOver d tree q → p ≡ q
 lack_over_one d tree p q x y = sym x ∙ y
 
 pub stated_stands : (d : Described) (text : List ℕ) (a : Statement) (p : Problem) → IsStated d text a → ¬ RefusesStatement d text p
@@ -212,7 +209,7 @@ pub settled_by_spec : (words : Words) (shelf : Shelved) (t : List ℕ) (p : Prob
 settled_by_spec words shelf t p no_form told refuses x = absurd x
 settled_by_spec words shelf t p (refused_text name q) told refuses (inl h) = ap (λ (n : List ℕ). refused_text n q) h.0 ∙ ap (refused_text words.spec) (one_refusal_of_spec t q p (h.1.1 t told) refuses)
 settled_by_spec words shelf t p (refused_text name q) told refuses (inr h) = absurd (described_stands t h.1.0 p (h.1.1.1 t told) refuses)
-settled_by_spec words shelf t p (accepted spec statement base) told refuses x = absurd (described_stands t x.1.0 p (x.1.2.1 t told) refuses)
+settled_by_spec words shelf t p (accepted taking base) told refuses x = absurd (described_stands t x.1.description p (x.1.spec.1 t told) refuses)
 
 -- where SPEC makes a description and MATCH is refused over it, it comes to that
 pub settled_by_match : (words : Words) (shelf : Shelved) (t m : List ℕ) (d : Described) (p : Problem) (a : Settled) → shelf.text words.spec ≡ Some t → shelf.text words.matching ≡ Some m
@@ -222,48 +219,68 @@ settled_by_match words shelf t m d p (refused_text name q) told_spec told_match 
 settled_by_match words shelf t m d p (refused_text name q) told_spec told_match makes refuses (inr h) =
     let over : RefusesStatement d m q = subst (λ (e : Described). RefusesStatement e m q) (one_described t h.1.0 d (h.1.1.1 t told_spec) makes) (h.1.2.1 m told_match) in
     ap (λ (n : List ℕ). refused_text n q) h.0 ∙ ap (refused_text words.matching) (one_refusal_of_match d m q p over refuses)
-settled_by_match words shelf t m d p (accepted spec statement base) told_spec told_match makes refuses x =
-    absurd (stated_stands d m statement p (subst (λ (e : Described). IsStated e m statement) (one_described t x.1.0 d (x.1.2.1 t told_spec) makes) (x.1.3.1 m told_match)) refuses)
+settled_by_match words shelf t m d p (accepted taking base) told_spec told_match makes refuses x =
+    absurd (stated_stands d m x.1.statement p (subst (λ (e : Described). IsStated e m x.1.statement) (one_described t x.1.description d (x.1.spec.1 t told_spec) makes) (x.1.stated.1 m told_match)) refuses)
+
+-- the reply to both is one, whatever the input is
+abbrev pub AreAlike : Settled → Settled → Type 0
+AreAlike a b = (input : Option (List ℕ)) → reply a input ≡ reply b input
+
+alike : (a b : Settled) → a ≡ b → AreAlike a b
+alike a b same input = ap (λ (x : Settled). reply x input) same
+
+-- two takings of a statement have one reply
+one_reply : (d : Described) (statement : Statement) (one other : Taking) (base : ℕ) → IsMatchable d.spec statement → IsTakingOf d.spec statement one → IsTakingOf d.spec statement other
+    → AreAlike (accepted one base) (accepted other base)
+one_reply d statement one other base matchable takes others None = refl
+one_reply d statement one other base matchable takes others (Some bytes) =
+    ap (λ (l : Listing). Some (listing_reply l)) (one_listing one other (one_taking d.spec statement one other matchable takes others) base bytes)
 
 -- where both are accepted it comes to what they make, with the base of the words
-pub settled_by_both : (words : Words) (shelf : Shelved) (t m : List ℕ) (d : Described) (statement : Statement) (a : Settled) → shelf.text words.spec ≡ Some t → shelf.text words.matching ≡ Some m
-    → IsDescribed t d → IsStated d m statement → SettlesDis words shelf a → a ≡ accepted d.spec statement words.base
-settled_by_both words shelf t m d statement no_form told_spec told_match makes states x = absurd x
-settled_by_both words shelf t m d statement (refused_text name q) told_spec told_match makes states (inl h) = absurd (described_stands t d q makes (h.1.1 t told_spec))
-settled_by_both words shelf t m d statement (refused_text name q) told_spec told_match makes states (inr h) =
-    absurd (stated_stands d m statement q states (subst (λ (e : Described). RefusesStatement e m q) (one_described t h.1.0 d (h.1.1.1 t told_spec) makes) (h.1.2.1 m told_match)))
-settled_by_both words shelf t m d statement (accepted spec stated base) told_spec told_match makes states x =
-    let same : x.1.0 ≡ d = one_described t x.1.0 d (x.1.2.1 t told_spec) makes in
-    let over : IsStated d m stated = subst (λ (e : Described). IsStated e m stated) same (x.1.3.1 m told_match) in
-    ap (λ (s : Spec). accepted s stated base) (x.1.1 ∙ ap (λ (e : Described). e.spec) same)
-    ∙ ap (λ (s : Statement). accepted d.spec s base) (one_stated d m stated statement over states) ∙ ap (accepted d.spec statement) x.0
+pub settled_by_both : (words : Words) (shelf : Shelved) (t m : List ℕ) (both : (taking : Taking) × MakesBoth words shelf taking) (a : Settled) → shelf.text words.spec ≡ Some t → shelf.text words.matching ≡ Some m
+    → SettlesDis words shelf a → AreAlike a (accepted both.0 words.base)
+settled_by_both words shelf t m both no_form told_spec told_match x = absurd x
+settled_by_both words shelf t m (taking, both) (refused_text name q) told_spec told_match (inl h) = absurd (described_stands t both.description q (both.spec.1 t told_spec) (h.1.1 t told_spec))
+settled_by_both words shelf t m (taking, both) (refused_text name q) told_spec told_match (inr h) =
+    absurd (stated_stands both.description m both.statement q (both.stated.1 m told_match)
+    (subst (λ (e : Described). RefusesStatement e m q) (one_described t h.1.0 both.description (h.1.1.1 t told_spec) (both.spec.1 t told_spec)) (h.1.2.1 m told_match)))
+settled_by_both words shelf t m (taking, both) (accepted other base) told_spec told_match x = λ input.
+    let d = both.description in
+    let same : x.1.description ≡ d = one_described t x.1.description d (x.1.spec.1 t told_spec) (both.spec.1 t told_spec) in
+    let over : IsStated d m x.1.statement = subst (λ (e : Described). IsStated e m x.1.statement) same (x.1.stated.1 m told_match) in
+    let stated : x.1.statement ≡ both.statement = one_stated d m x.1.statement both.statement over (both.stated.1 m told_match) in
+    let takes : IsTakingOf d.spec both.statement other =
+    subst (λ (s : Statement). IsTakingOf d.spec s other) stated (subst (λ (e : Described). IsTakingOf e.spec x.1.statement other) same x.1.takes) in
+    alike (accepted other base) (accepted other words.base) (ap (accepted other) x.0) input ∙ one_reply d both.statement other taking words.base both.matchable takes both.takes input
 
--- all that they come to is one
+-- all that they come to is alike
 record Comes (words : Words) (shelf : Shelved) : Type 0 where
   pub to : Settled
-  pub only : (a : Settled) → SettlesDis words shelf a → a ≡ to
+  pub only : (a : Settled) → SettlesDis words shelf a → AreAlike a to
 
 comes : (words : Words) (shelf : Shelved) (t m : List ℕ) (a : Settled) → shelf.text words.spec ≡ Some t → shelf.text words.matching ≡ Some m → SettlesDis words shelf a → Comes words shelf
 comes words shelf t m no_form told_spec told_match x = absurd x
-comes words shelf t m (refused_text name p) told_spec told_match (inl h) = record { to = refused_text words.spec p; only = λ b y. settled_by_spec words shelf t p b told_spec (h.1.1 t told_spec) y }
-comes words shelf t m (refused_text name p) told_spec told_match (inr h) =
-    record { to = refused_text words.matching p; only = λ b y. settled_by_match words shelf t m h.1.0 p b told_spec told_match (h.1.1.1 t told_spec) (h.1.2.1 m told_match) y }
-comes words shelf t m (accepted spec statement base) told_spec told_match x =
-    record { to = accepted x.1.0.spec statement words.base; only = λ b y. settled_by_both words shelf t m x.1.0 statement b told_spec told_match (x.1.2.1 t told_spec) (x.1.3.1 m told_match) y }
+comes words shelf t m (refused_text name p) told_spec told_match (inl h) =
+    record { to = refused_text words.spec p; only = λ b y. alike b (refused_text words.spec p) (settled_by_spec words shelf t p b told_spec (h.1.1 t told_spec) y) }
+comes words shelf t m (refused_text name p) told_spec told_match (inr h) = record {
+  to = refused_text words.matching p;
+  only = λ b y. alike b (refused_text words.matching p) (settled_by_match words shelf t m h.1.0 p b told_spec told_match (h.1.1.1 t told_spec) (h.1.2.1 m told_match) y);
+}
+comes words shelf t m (accepted taking base) told_spec told_match x = record { to = accepted taking words.base; only = λ b y. settled_by_both words shelf t m (taking, x.1) b told_spec told_match y }
 
 -- words and told texts come to one thing at most
 pub one_settled : (words : Words) (shelf : Shelved) (spec matching : List ℕ) (a b : Settled) → shelf.text words.spec ≡ Some spec → shelf.text words.matching ≡ Some matching
-    → SettlesDis words shelf a → SettlesDis words shelf b → a ≡ b
-one_settled words shelf spec matching a b told_spec told_match x y =
+    → SettlesDis words shelf a → SettlesDis words shelf b → AreAlike a b
+one_settled words shelf spec matching a b told_spec told_match x y input =
     let c = comes words shelf spec matching a told_spec told_match x in
-    c.only a x ∙ sym (c.only b y)
+    c.only a x input ∙ sym (c.only b y input)
 
 -- so where they ask for nothing
-pub one_settled_unasked : (shelf : Shelved) (a b : Settled) → Settles None shelf a → Settles None shelf b → a ≡ b
-one_settled_unasked shelf a b x y = x ∙ sym y
+pub one_settled_unasked : (shelf : Shelved) (a b : Settled) → Settles None shelf a → Settles None shelf b → AreAlike a b
+one_settled_unasked shelf a b x y = alike a b (x ∙ sym y)
 
 -- where all texts are told, what holds of the reply to something that words and texts come to holds of the reply to anything that they come to
 pub only_settled : (asked : Option Words) (shelf : Shelved) (input : Option (List ℕ)) (P : Reply → Type 0) (s : Settled) → TellsTexts asked shelf → Settles asked shelf s → Answered (Settles asked shelf) input P → ForSome (reply s input) P
-only_settled None shelf input P s told so h = subst (λ (a : Settled). ForSome (reply a input) P) (one_settled_unasked shelf h.0 s h.1 so) h.2
+only_settled None shelf input P s told so h = subst (λ (r : Option Reply). ForSome r P) (one_settled_unasked shelf h.0 s h.1 so input) h.2
 only_settled (Some words) shelf input P s told so h =
-    subst (λ (a : Settled). ForSome (reply a input) P) (one_settled words shelf told.0.0 told.1.0 h.0 s told.0.1 told.1.1 h.1 so) h.2
+    subst (λ (r : Option Reply). ForSome r P) (one_settled words shelf told.0.0 told.1.0 h.0 s told.0.1 told.1.1 h.1 so input) h.2

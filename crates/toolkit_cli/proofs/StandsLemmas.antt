@@ -9,6 +9,8 @@ use Rattle.sled_base.specs.Contents.{AppendsProperPrefix}
 use Rattle.sled_model.specs.declared.spec.Spec.{Spec}
 use Rattle.sled_model.specs.declared.statement.Statement.{Statement}
 use Rattle.image_listing.specs.declared.answers.Stop.{Stop}
+use Rattle.image_listing.specs.Listing.{Taking, listing_by}
+use Rattle.disassembler.specs.Disassembly.{IsTakingOf}
 use Rattle.toolkit_cli.specs.declared.status.Status.{Status}
 use Rattle.toolkit_cli.specs.declared.status.Status.TheVariants.{Done, Refused, Usage, ReadFault, WriteFault, NoMemory}
 use Rattle.toolkit_cli.specs.declared.messages.Problem.{Problem}
@@ -17,7 +19,7 @@ use Rattle.toolkit_cli.specs.declared.texts.TextStop.{TextStop}
 use Rattle.toolkit_cli.specs.declared.texts.TextStop.TheVariants.{Unread as UnreadText, Refused as RefusedText, NoMemory as NoTextMemory}
 use Rattle.toolkit_cli.specs.Words.{Words}
 use Rattle.toolkit_cli.specs.Messages.{message, problem_number, usage_text}
-use Rattle.toolkit_cli.specs.Reply.{Settled, Shelved, no_form, refused_text, accepted, Settles, Reply, reply, refused, listing, listing_reply, listed_reply, stop_problem, usage_reply}
+use Rattle.toolkit_cli.specs.Reply.{Settled, Shelved, no_form, refused_text, accepted, Settles, Reply, reply, refused, listing_reply, listed_reply, stop_problem, usage_reply}
 use Rattle.toolkit_cli.specs.Told.{Told}
 use Rattle.toolkit_cli.specs.Stands.{Change, HasFailed, Gets, GetsPrefix, GetsNothing, IsReply, OutFailed, NotesFailed, HasPart, IsAnswer, Answered, IsForgone, Stands, StopTold, Unread, UnreadByWords, AcceptsByWords}
 
@@ -130,26 +132,30 @@ Stands-along settles later input unread unread_later sink log NoMemory up read (
 
 -- ---- the listing
 
+-- a taking of a statement is one of an equal statement
+pub takes_along : (a b : Spec) (s t : Statement) (taking : Taking) → a ≡ b → s ≡ t → IsTakingOf b t taking → IsTakingOf a s taking
+takes_along a b s t taking specs statements of = subst (λ (x : Spec). IsTakingOf x s taking) (sym specs) (subst (λ (x : Statement). IsTakingOf b x taking) (sym statements) of)
+
 output_of : (lines : List ℕ) (stop : Option Stop) → (listed_reply lines stop).output ≡ lines
 output_of lines None = refl
 output_of lines (Some s) = refl
 
 -- what holds of the lines of the listing, holds of the output of the reply
-of_lines : (spec : Spec) (statement : Statement) (base : ℕ) (input : Option (List ℕ)) (P : List ℕ → Type 0) → ForSome input (λ bytes. P (listing spec statement base bytes).lines)
-    → ForSome (reply (accepted spec statement base) input) (λ r. P r.output)
-of_lines spec statement base input P so r e =
-    let bytes = map_some input (λ (b : List ℕ). listing_reply (listing spec statement base b)) r e in
-    let l = listing spec statement base bytes.0 in
+of_lines : (taking : Taking) (base : ℕ) (input : Option (List ℕ)) (P : List ℕ → Type 0) → ForSome input (λ bytes. P (listing_by taking base bytes).lines)
+    → ForSome (reply (accepted taking base) input) (λ r. P r.output)
+of_lines taking base input P so r e =
+    let bytes = map_some input (λ (b : List ℕ). listing_reply (listing_by taking base b)) r e in
+    let l = listing_by taking base bytes.0 in
     subst P (sym (output_of l.lines l.stop) ∙ ap (λ (x : Reply). x.output) bytes.2) (so bytes.0 bytes.1)
 
 -- the listing ended so, and its lines are written
-pub input_listed : (spec : Spec) (statement : Statement) (base : ℕ) (input : Option (List ℕ)) (sink : Change) (stop : Option Stop) (note : List ℕ) (wanted : Status)
+pub input_listed : (taking : Taking) (base : ℕ) (input : Option (List ℕ)) (sink : Change) (stop : Option Stop) (note : List ℕ) (wanted : Status)
     → (listed_reply [] stop).notes ≡ note → (listed_reply [] stop).status ≡ wanted
-    → ForSome input (λ bytes. Gets sink (listing spec statement base bytes).lines) → ForSome input (λ bytes. (listing spec statement base bytes).stop ≡ stop)
-    → ForSome (reply (accepted spec statement base) input) (HasOutput sink note wanted)
-input_listed spec statement base input sink stop note wanted text answer lines ended r e =
-    let bytes = map_some input (λ (b : List ℕ). listing_reply (listing spec statement base b)) r e in
-    let l = listing spec statement base bytes.0 in
+    → ForSome input (λ bytes. Gets sink (listing_by taking base bytes).lines) → ForSome input (λ bytes. (listing_by taking base bytes).stop ≡ stop)
+    → ForSome (reply (accepted taking base) input) (HasOutput sink note wanted)
+input_listed taking base input sink stop note wanted text answer lines ended r e =
+    let bytes = map_some input (λ (b : List ℕ). listing_reply (listing_by taking base b)) r e in
+    let l = listing_by taking base bytes.0 in
     let same : listed_reply l.lines stop ≡ r = ap (λ (s : Option Stop). listed_reply l.lines s) (sym (ended bytes.0 bytes.1)) ∙ bytes.2 in
     subst (λ (x : Reply). HasOutput sink note wanted x) same (has_output l.lines stop text answer (lines bytes.0 bytes.1)) where
       has_output : (ls : List ℕ) (stop : Option Stop) → (listed_reply [] stop).notes ≡ note → (listed_reply [] stop).status ≡ wanted → Gets sink ls → HasOutput sink note wanted (listed_reply ls stop)
@@ -157,20 +163,20 @@ input_listed spec statement base input sink stop note wanted text answer lines e
       has_output ls (Some s) text answer got = record { output = got; text = text; answer = answer }
 
 -- the output has a part of the lines
-pub input_unwritten : (spec : Spec) (statement : Statement) (base : ℕ) (input : Option (List ℕ)) (sink log : Change) → GetsNothing log → HasFailed sink
-    → ForSome input (λ bytes. AppendsProperPrefix sink.old sink.new (listing spec statement base bytes).lines)
-    → OutFailed (reply (accepted spec statement base) input) sink log
-input_unwritten spec statement base input sink log kept cause part = record {
+pub input_unwritten : (taking : Taking) (base : ℕ) (input : Option (List ℕ)) (sink log : Change) → GetsNothing log → HasFailed sink
+    → ForSome input (λ bytes. AppendsProperPrefix sink.old sink.new (listing_by taking base bytes).lines)
+    → OutFailed (reply (accepted taking base) input) sink log
+input_unwritten taking base input sink log kept cause part = record {
   cause = cause;
-  output = of_lines spec statement base input (λ lines. AppendsProperPrefix sink.old sink.new lines) part;
+  output = of_lines taking base input (λ lines. AppendsProperPrefix sink.old sink.new lines) part;
   notes = kept;
 }
 
 -- there was no memory behind some of the lines
-pub input_forgone : (spec : Spec) (statement : Statement) (base : ℕ) (input : Option (List ℕ)) (sink log : Change) → ForSome input (λ bytes. GetsPrefix sink (listing spec statement base bytes).lines)
-    → GetsNothing log → IsForgone (λ s. s ≡ accepted spec statement base) input sink log
-input_forgone spec statement base input sink log part kept =
-    inr (accepted spec statement base, refl, λ r e. record { output = of_lines spec statement base input (GetsPrefix sink) part r e; notes = GetsPrefix-none log r.notes kept })
+pub input_forgone : (taking : Taking) (base : ℕ) (input : Option (List ℕ)) (sink log : Change) → ForSome input (λ bytes. GetsPrefix sink (listing_by taking base bytes).lines)
+    → GetsNothing log → IsForgone (λ s. s ≡ accepted taking base) input sink log
+input_forgone taking base input sink log part kept =
+    inr (accepted taking base, refl, λ r e. record { output = of_lines taking base input (GetsPrefix sink) part r e; notes = GetsPrefix-none log r.notes kept })
 
 -- ---- the words
 
@@ -238,7 +244,7 @@ silent : (asked : Option Words) (shelf : Shelved) (input : Option (List ℕ)) (s
 silent None shelf input s so = inr (usage_reply, ap (λ (x : Settled). reply x input) so, refl)
 silent (Some words) shelf input no_form so = absurd so
 silent (Some words) shelf input (refused_text name p) so = inr (refused [] name p, refl, refl)
-silent (Some words) shelf input (accepted spec statement base) so = inl (so.1.0, statement, so.1.2, so.1.3)
+silent (Some words) shelf input (accepted taking base) so = inl (so.1.description, so.1.statement, so.1.spec, so.1.stated)
 
 -- so nothing is written there
 untouched_by : (asked : Option Words) (shelf : Shelved) (input : Option (List ℕ)) (P : Reply → Type 0) (sink : Change) → ((r : Reply) → r.output ≡ [] → P r → GetsNothing sink)
@@ -254,7 +260,7 @@ unread_untouched : (asked : Option Words) (shelf : Shelved) (shelf_rose : List �
 unread_untouched None shelf shelf_rose intake sink name h = absurd h
 unread_untouched (Some words) shelf shelf_rose intake sink name (inl h) = inr h.2
 unread_untouched (Some words) shelf shelf_rose intake sink name (inr (inl h)) = inr h.3
-unread_untouched (Some words) shelf shelf_rose intake sink name (inr (inr h)) = let both = h.1.2 in inl (both.0, h.1.1, both.2, both.3)
+unread_untouched (Some words) shelf shelf_rose intake sink name (inr (inr h)) = let both = h.1.1 in inl (both.description, both.statement, both.spec, both.stated)
 
 pub stands_untouched : (asked : Option Words) (shelf : Shelved) (input : Option (List ℕ)) (shelf_rose : List ℕ → Type 0) (intake sink log : Change) (status : Status)
     → Stands (Settles asked shelf) input (UnreadByWords asked shelf shelf_rose intake sink) sink log status → AcceptsByWords asked shelf ⊎ GetsNothing sink

@@ -11,19 +11,18 @@ use Rattle.sled_parser.specs.declared.tree.Decl.{Decl}
 use Rattle.sled_parser.specs.Pieces.{Input, pieces}
 use Rattle.sled_parser.specs.Declarations.{IsDescription}
 use Rattle.sled_parser.specs.Nesting.{nest_fault}
-use Rattle.sled_elab.specs.declared.lack.Lack.{Lack}
 use Rattle.toolkit_cli.specs.declared.messages.Unit.{Unit as Part}
 use Rattle.toolkit_cli.specs.Texts.{IsLexed, IsParsed, IsRefused, Stops, lex_stop, syntax_stop}
 use Rattle.toolkit_cli.specs.Reply.{Shelved, IsThere}
 
-pub not_lexed : {T : Type 0} (IsTree : Input → T → Type 0) (Lacks : T → Option (ℕ × Lack) → Type 0) (unit : Part) (text : List ℕ) (f : LexFault) → length text ≤ 1048576
+pub not_lexed : {T : Type 0} (IsTree : Input → T → Type 0) (Lacks : T → Option (ℕ × ℕ) → Type 0) (unit : Part) (text : List ℕ) (f : LexFault) → length text ≤ 1048576
     → (f ≢ lex.NoMemory → IsLexFault text f) → Stops (IsRefused IsTree Lacks unit) text (lex_stop f)
 not_lexed IsTree Lacks unit text (lex.BadByte place) short h = (short, h (λ e. cc))
 not_lexed IsTree Lacks unit text (lex.OpenText place) short h = (short, h (λ e. cc))
 not_lexed IsTree Lacks unit text (lex.NumberTooBig place) short h = (short, h (λ e. cc))
 not_lexed IsTree Lacks unit text lex.NoMemory short h = tt
 
-pub not_parsed : {T : Type 0} (IsTree : Input → T → Type 0) (Lacks : T → Option (ℕ × Lack) → Type 0) (unit : Part) (text : List ℕ) (lexemes : List Lexeme) (f : SyntaxFault) → IsLexed text lexemes
+pub not_parsed : {T : Type 0} (IsTree : Input → T → Type 0) (Lacks : T → Option (ℕ × ℕ) → Type 0) (unit : Part) (text : List ℕ) (lexemes : List Lexeme) (f : SyntaxFault) → IsLexed text lexemes
     → ((p : ℕ) → f ≡ syntax.Nesting p → nest_fault text lexemes ≡ Some p) → (f ≡ syntax.Syntax → (nest_fault text lexemes ≡ None) × ((t : T) → ¬ IsTree (pieces text lexemes) t))
     → Stops (IsRefused IsTree Lacks unit) text (syntax_stop f)
 not_parsed IsTree Lacks unit text lexemes (syntax.Nesting place) lexed deep none = record { lexemes = lexemes; lexed = lexed; deep = deep place refl }

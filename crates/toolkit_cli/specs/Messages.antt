@@ -4,7 +4,7 @@ use Rattle.image_listing.specs.Listing.{address_text}
 use Rattle.toolkit_cli.specs.declared.messages.Unit.{Unit as Part}
 use Rattle.toolkit_cli.specs.declared.messages.Unit.TheVariants as part
 use Rattle.toolkit_cli.specs.declared.messages.Problem.{Problem}
-use Rattle.toolkit_cli.specs.declared.messages.Problem.TheVariants.{Unread, TooLong, BadByte, OpenText, NumberTooBig, Syntax, Nesting, Unmet, NoMatch, AddressEnd, NotBuilt}
+use Rattle.toolkit_cli.specs.declared.messages.Problem.TheVariants.{Unread, TooLong, BadByte, OpenText, NumberTooBig, Syntax, Nesting, Unmet, NoMatch, AddressEnd}
 
 abbrev pub problem_number : Problem → ℕ
 problem_number Unread = 1
@@ -17,7 +17,6 @@ problem_number (Nesting place) = 7
 problem_number (Unmet unit number condition) = 8
 problem_number (NoMatch address) = 9
 problem_number (AddressEnd address) = 10
-problem_number (NotBuilt unit number) = 90
 
 abbrev pub unit_text : Part → List ℕ
 unit_text part.Declaration = codes "declaration"
@@ -25,9 +24,6 @@ unit_text part.Arm = codes "arm"
 
 abbrev pub unmet_text : Part → ℕ → ℕ → List ℕ
 unmet_text unit number condition = unit_text unit ++ (codes " " ++ (decimal number ++ (codes " does not meet condition " ++ decimal condition)))
-
-abbrev pub not_built_text : Part → ℕ → List ℕ
-not_built_text unit number = unit_text unit ++ (codes " " ++ (decimal number ++ codes " is not built yet"))
 
 abbrev pub no_match_text : ℕ → List ℕ
 no_match_text address = codes "no arm matches at " ++ address_text address
@@ -46,7 +42,6 @@ problem_text (Nesting place) = codes "brackets nested deeper than 64 at " ++ dec
 problem_text (Unmet unit number condition) = unmet_text unit number condition
 problem_text (NoMatch address) = no_match_text address
 problem_text (AddressEnd address) = address_end_text address
-problem_text (NotBuilt unit number) = not_built_text unit number
 
 -- NAME: error N: TEXT
 abbrev pub message : List ℕ → Problem → List ℕ

@@ -1,13 +1,13 @@
 -- What the words and the texts come to, and what a run then writes and answers where no call of the outside fails.
 use Rattle.std.specs.Prelude.{◌≡◌, ◌⊎◌, ℕ, Bool, false, List, [], Option, None, Some, option_map, codes}
 use Rattle.std.specs.Option.{ForSome}
-use Rattle.sled_model.specs.declared.spec.Spec.{Spec}
 use Rattle.sled_model.specs.declared.statement.Statement.{Statement}
+use Rattle.match_meaning.specs.Matchable.{IsMatchable}
 use Rattle.sled_elab.specs.Declarations.{Described}
+use Rattle.disassembler.specs.Disassembly.{IsTakingOf}
 use Rattle.image_listing.specs.declared.answers.Stop.{Stop}
 use Rattle.image_listing.specs.declared.answers.Stop.TheVariants as stop
-use Rattle.image_listing.specs.Listing.{Listing, listing_by, listing_front}
-use Rattle.match_engine.specs.Taken.{taken}
+use Rattle.image_listing.specs.Listing.{Listing, Taking, listing_by}
 use Rattle.toolkit_cli.specs.declared.status.Status.{Status}
 use Rattle.toolkit_cli.specs.declared.status.Status.TheVariants.{Done, Refused, Usage}
 use Rattle.toolkit_cli.specs.declared.messages.Problem.{Problem}
@@ -18,10 +18,11 @@ use Rattle.toolkit_cli.specs.Texts.{IsDescribed, RefusesDescription, IsStated, R
 
 -- ---- what the words and the texts come to
 
+-- the words have no form, a text is refused, or an image is listed: by what stands at each place, and from this address on
 pub data Settled : Type 0 where
   no_form : Settled
   refused_text : List ℕ → Problem → Settled
-  accepted : Spec → Statement → ℕ → Settled
+  accepted : Taking → ℕ → Settled
 
 -- what a shelf tells of each name: its text, or that there is none
 pub record Shelved : Type 0 where
@@ -46,14 +47,20 @@ RefusesText words shelf name p =
     ((name ≡ words.spec) × IsThere shelf words.spec (λ t. RefusesDescription t p))
     ⊎ ((name ≡ words.matching) × ((d : Described) × MakesSpec words shelf d × IsThere shelf words.matching (λ t. RefusesStatement d t p)))
 
--- SPEC makes this description, and MATCH this statement over what its names stand for
-abbrev pub MakesBoth : Words → Shelved → Spec → Statement → Type 0
-MakesBoth words shelf spec statement = (d : Described) × (spec ≡ d.spec) × MakesSpec words shelf d × MakesStatement words shelf d statement
+-- SPEC makes a description, MATCH a statement over what its names stand for, and this says what stands at each place by the statement.
+-- It can be matched, so that one thing at most stands at a place (`one_taking` of `disassembler`).
+pub record MakesBoth (words : Words) (shelf : Shelved) (taking : Taking) : Type 0 where
+  pub description : Described
+  pub statement : Statement
+  pub spec : MakesSpec words shelf description
+  pub stated : MakesStatement words shelf description statement
+  pub matchable : IsMatchable description.spec statement
+  pub takes : IsTakingOf description.spec statement taking
 
 abbrev pub SettlesDis : Words → Shelved → Settled → Type 0
 SettlesDis words shelf no_form = ⊥
 SettlesDis words shelf (refused_text name p) = RefusesText words shelf name p
-SettlesDis words shelf (accepted spec statement base) = (base ≡ words.base) × MakesBoth words shelf spec statement
+SettlesDis words shelf (accepted taking base) = (base ≡ words.base) × MakesBoth words shelf taking
 
 -- what the words and the texts come to
 abbrev pub Settles : Option Words → Shelved → Settled → Type 0
@@ -68,16 +75,6 @@ IsToldText shelf name = (t : List ℕ) × (shelf.text name ≡ Some t)
 abbrev pub TellsTexts : Option Words → Shelved → Type 0
 TellsTexts None shelf = Unit {0}
 TellsTexts (Some words) shelf = IsToldText shelf words.spec × IsToldText shelf words.matching
-
--- ---- the listing
-
--- the listing of the bytes by the statement, the first of which stands at address `base`
-abbrev pub listing : Spec → Statement → ℕ → List ℕ → Listing
-listing spec statement base bytes = listing_by (taken spec statement) base bytes
-
--- its front, which stops before the first place with fewer than 32 bytes left
-abbrev pub front : Spec → Statement → ℕ → List ℕ → Listing
-front spec statement base bytes = listing_front (taken spec statement) base bytes
 
 -- ---- what is written and answered
 
@@ -108,4 +105,4 @@ usage_reply = record { output = []; notes = usage_text; status = Usage }
 abbrev pub reply : Settled → Option (List ℕ) → Option Reply
 reply no_form input = Some usage_reply
 reply (refused_text name p) input = Some (refused [] name p)
-reply (accepted spec statement base) input = option_map (λ bytes. listing_reply (listing spec statement base bytes)) input
+reply (accepted taking base) input = option_map (λ bytes. listing_reply (listing_by taking base bytes)) input

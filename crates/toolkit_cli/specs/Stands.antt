@@ -4,9 +4,9 @@ use Rattle.std.specs.Option.{ForSome}
 use Rattle.std.specs.Io.KnownBytes.{Appends, Consumes, Keeps}
 use Rattle.sled_base.specs.Causes.{Rose}
 use Rattle.sled_base.specs.Contents.{AppendsProperPrefix}
-use Rattle.sled_model.specs.declared.spec.Spec.{Spec}
 use Rattle.sled_model.specs.declared.statement.Statement.{Statement}
 use Rattle.sled_elab.specs.Declarations.{Described}
+use Rattle.image_listing.specs.Listing.{Taking, listing_front}
 use Rattle.toolkit_cli.specs.declared.messages.Problem.TheVariants as problem
 use Rattle.toolkit_cli.specs.declared.status.Status.{Status}
 use Rattle.toolkit_cli.specs.declared.status.Status.TheVariants.{Done, Refused, Usage, ReadFault, WriteFault, NoMemory}
@@ -14,7 +14,7 @@ use Rattle.toolkit_cli.specs.declared.texts.TextStop.{TextStop}
 use Rattle.toolkit_cli.specs.declared.texts.TextStop.TheVariants.{Unread as UnreadText, Refused as RefusedText, NoMemory as NoTextMemory}
 use Rattle.toolkit_cli.specs.Words.{Words}
 use Rattle.toolkit_cli.specs.Messages.{message, problem_number}
-use Rattle.toolkit_cli.specs.Reply.{Settled, Shelved, Reply, reply, MakesSpec, MakesStatement, MakesBoth, front}
+use Rattle.toolkit_cli.specs.Reply.{Settled, Shelved, Reply, reply, MakesSpec, MakesStatement, MakesBoth}
 use Rattle.toolkit_cli.specs.Told.{Told}
 
 -- what the input or a sink went through: the bytes that it has left, or that it took, where they are told, and its count of faults
@@ -58,20 +58,21 @@ abbrev pub AcceptsByWords : Option Words → Shelved → Type 0
 AcceptsByWords None shelf = ⊥
 AcceptsByWords (Some words) shelf = AcceptsTexts words shelf
 
--- the input gave some bytes, the sink got the lines of the front of their listing, and that run refuses no place
-pub record HasFront (spec : Spec) (statement : Statement) (base : ℕ) (intake sink : Change) : Type 0 where
+-- the input gave some bytes, the sink got the lines of the front of their listing, which stops before the first place with fewer than 32
+-- bytes left, and that run refuses no place
+pub record HasFront (taking : Taking) (base : ℕ) (intake sink : Change) : Type 0 where
   pub given : List ℕ
   pub taken : Consumes intake.old intake.new given
-  pub stop : (front spec statement base given).stop ≡ None
-  pub lines : Gets sink (front spec statement base given).lines
+  pub stop : (listing_front taking base given).stop ≡ None
+  pub lines : Gets sink (listing_front taking base given).lines
 
 -- a read of the input failed, behind some bytes that are listed
-abbrev pub InputUnread : Spec → Statement → ℕ → Change → Change → Type 0
-InputUnread spec statement base intake sink = HasFailed intake × HasFront spec statement base intake sink
+abbrev pub InputUnread : Taking → ℕ → Change → Change → Type 0
+InputUnread taking base intake sink = HasFailed intake × HasFront taking base intake sink
 
 -- and this is its name
-abbrev pub ReadsInput : Spec → Statement → ℕ → Change → Change → List ℕ → Type 0
-ReadsInput spec statement base intake sink name = (name ≡ codes "input") × InputUnread spec statement base intake sink
+abbrev pub ReadsInput : Taking → ℕ → Change → Change → List ℕ → Type 0
+ReadsInput taking base intake sink name = (name ≡ codes "input") × InputUnread taking base intake sink
 
 -- A call that reads failed, a text's or the input's, and this is its name; what is read before it is accepted. Where it is a text's,
 -- the sink got nothing.
@@ -79,7 +80,7 @@ abbrev pub Unread : Words → Shelved → (List ℕ → Type 0) → Change → C
 Unread words shelf shelf_rose intake sink name =
     ((name ≡ words.spec) × shelf_rose words.spec × GetsNothing sink)
     ⊎ (((name ≡ words.matching) × AcceptsSpec words shelf × shelf_rose words.matching × GetsNothing sink)
-    ⊎ ((name ≡ codes "input") × ((spec : Spec) × (statement : Statement) × MakesBoth words shelf spec statement × InputUnread spec statement words.base intake sink)))
+    ⊎ ((name ≡ codes "input") × ((taking : Taking) × MakesBoth words shelf taking × InputUnread taking words.base intake sink)))
 
 abbrev pub UnreadByWords : Option Words → Shelved → (List ℕ → Type 0) → Change → Change → List ℕ → Type 0
 UnreadByWords None shelf shelf_rose intake sink name = ⊥

@@ -16,14 +16,15 @@ use Rattle.sled_parser.specs.Nesting.{nest_fault}
 use Rattle.sled_parser.specs.Declarations.{IsDescription}
 use Rattle.sled_parser.specs.Statements.{IsStatement}
 use Rattle.sled_model.specs.declared.statement.Statement.{Statement}
-use Rattle.sled_elab.specs.declared.lack.Lack.{Lack}
-use Rattle.sled_elab.specs.declared.lack.Lack.TheVariants as lack
-use Rattle.sled_elab.specs.declared.lack.ElabFault.{ElabFault}
-use Rattle.sled_elab.specs.declared.lack.ElabFault.TheVariants as elab
-use Rattle.sled_elab.specs.Conditions.{IsDescriptionLack, statement_lack}
+use Rattle.sled_elab.specs.declared.fault.ElabFault.{ElabFault}
+use Rattle.sled_elab.specs.declared.fault.ElabFault.TheVariants as elab
+use Rattle.sled_elab.specs.Conditions.{IsDescriptionLack}
 use Rattle.sled_elab.specs.Declarations.{Described}
 use Rattle.sled_elab.specs.Elaboration.{described}
-use Rattle.sled_elab.specs.Statements.{statement_of}
+use Rattle.statement_building.specs.declared.fault.StatementFault.{StatementFault}
+use Rattle.statement_building.specs.declared.fault.StatementFault.TheVariants as statement
+use Rattle.statement_building.specs.Conditions.{statement_unmet}
+use Rattle.statement_building.specs.Statements.{statement_of}
 use Rattle.toolkit_cli.specs.declared.messages.Unit.{Unit as Part}
 use Rattle.toolkit_cli.specs.declared.messages.Unit.TheVariants as part
 use Rattle.toolkit_cli.specs.declared.messages.Problem.{Problem}
@@ -57,27 +58,26 @@ pub record NestsDeep (text : List ℕ) (place : ℕ) : Type 0 where
   pub lexed : IsLexed text lexemes
   pub deep : nest_fault text lexemes ≡ Some place
 
--- the text is a sentence, and this is the first of its parts that lacks something
-pub record LacksAt {T : Type 0} (IsTree : Input → T → Type 0) (Lacks : T → Option (ℕ × Lack) → Type 0) (text : List ℕ) (number : ℕ) (what : Lack) : Type 0 where
+-- the text is a sentence, and this is the first of its parts that does not meet a condition, and the condition
+pub record LacksAt {T : Type 0} (IsTree : Input → T → Type 0) (Lacks : T → Option (ℕ × ℕ) → Type 0) (text : List ℕ) (number condition : ℕ) : Type 0 where
   pub tree : T
   pub parsed : IsParsed IsTree text tree
-  pub lack : Lacks tree (Some (number, what))
+  pub lack : Lacks tree (Some (number, condition))
 
--- the text is refused so: `Lacks` says what the first part that lacks something lacks
-abbrev pub IsRefused : {T : Type 0} → (Input → T → Type 0) → (T → Option (ℕ × Lack) → Type 0) → Part → List ℕ → Problem → Type 0
+-- the text is refused so: `Lacks` says which part is the first that does not meet a condition, and which it does not meet
+abbrev pub IsRefused : {T : Type 0} → (Input → T → Type 0) → (T → Option (ℕ × ℕ) → Type 0) → Part → List ℕ → Problem → Type 0
 IsRefused IsTree Lacks unit text problem.TooLong = MAX_TEXT < length text
 IsRefused IsTree Lacks unit text (problem.BadByte place) = (length text ≤ MAX_TEXT) × IsLexFault text (lex.BadByte place)
 IsRefused IsTree Lacks unit text (problem.OpenText place) = (length text ≤ MAX_TEXT) × IsLexFault text (lex.OpenText place)
 IsRefused IsTree Lacks unit text (problem.NumberTooBig place) = (length text ≤ MAX_TEXT) × IsLexFault text (lex.NumberTooBig place)
 IsRefused IsTree Lacks unit text (problem.Nesting place) = NestsDeep text place
 IsRefused IsTree Lacks unit text problem.Syntax = IsNoSentence IsTree text
-IsRefused IsTree Lacks unit text (problem.Unmet what number condition) = (what ≡ unit) × LacksAt IsTree Lacks text number (lack.Condition condition)
-IsRefused IsTree Lacks unit text (problem.NotBuilt what number) = (what ≡ unit) × LacksAt IsTree Lacks text number lack.NotBuilt
+IsRefused IsTree Lacks unit text (problem.Unmet what number condition) = (what ≡ unit) × LacksAt IsTree Lacks text number condition
 IsRefused IsTree Lacks unit text _ = ⊥
 
 -- ---- descriptions
 
--- the text is a description that lacks nothing, and this is what it makes
+-- the text is a description that meets all conditions, and this is what it makes
 pub record IsDescribed (text : List ℕ) (d : Described) : Type 0 where
   pub tree : List Decl
   pub parsed : IsParsed IsDescription text tree
@@ -89,16 +89,16 @@ RefusesDescription text p = IsRefused IsDescription IsDescriptionLack part.Decla
 
 -- ---- statements over a description
 
--- the first arm that lacks something over the description, and what it lacks
-abbrev pub IsLackOver : Described → MatchTree → Option (ℕ × Lack) → Type 0
-IsLackOver d tree first = statement_lack d.spec d.declared tree ≡ first
+-- the first arm that does not meet a condition over the description, and the condition
+abbrev pub IsLackOver : Described → MatchTree → Option (ℕ × ℕ) → Type 0
+IsLackOver d tree first = statement_unmet d.spec d.declared tree ≡ first
 
--- the text is a statement that lacks nothing, and this is what it makes
+-- the text is a statement that meets all conditions, and this is what it makes
 pub record IsStated (d : Described) (text : List ℕ) (statement : Statement) : Type 0 where
   pub tree : MatchTree
   pub parsed : IsParsed IsStatement text tree
   pub met : IsLackOver d tree None
-  pub same : statement ≡ statement_of d.declared tree
+  pub same : statement ≡ statement_of d.spec d.declared tree
 
 abbrev pub RefusesStatement : Described → List ℕ → Problem → Type 0
 RefusesStatement d text p = IsRefused IsStatement (IsLackOver d) part.Arm text p
@@ -121,13 +121,13 @@ syntax_stop (syntax.Nesting place) = Refused (problem.Nesting place)
 syntax_stop syntax.Syntax = Refused problem.Syntax
 syntax_stop syntax.NoMemory = NoMemory
 
-abbrev pub lack_problem : Part → ℕ → Lack → Problem
-lack_problem unit number (lack.Condition condition) = problem.Unmet unit number condition
-lack_problem unit number lack.NotBuilt = problem.NotBuilt unit number
+abbrev pub elab_stop : ElabFault → TextStop
+elab_stop (elab.Unmet declaration condition) = Refused (problem.Unmet part.Declaration declaration condition)
+elab_stop elab.NoMemory = NoMemory
 
-abbrev pub elab_stop : Part → ElabFault → TextStop
-elab_stop unit (elab.Lacks number what) = Refused (lack_problem unit number what)
-elab_stop unit elab.NoMemory = NoMemory
+abbrev pub statement_stop : StatementFault → TextStop
+statement_stop (statement.Unmet arm condition) = Refused (problem.Unmet part.Arm arm condition)
+statement_stop statement.NoMemory = NoMemory
 
 -- a refusal has its cause
 abbrev pub Stops : (List ℕ → Problem → Type 0) → List ℕ → TextStop → Type 0

@@ -1,4 +1,5 @@
-//! The program's one call, `run`: what it asks of the outside, and what it leaves there, status by status.
+//! The program's one call, `run`: what it asks of the outside, and what it leaves there, status by status. The steps by which it reads
+//! the texts can be called apart: `read_decls`, `described` and `read_statement`.
 #![tactic(auto)]
 
 mod messages;
@@ -7,5 +8,7 @@ mod status;
 mod texts;
 mod words;
 
+pub use messages::{Problem, Unit};
 pub use program::run;
 pub use status::Status;
+pub use texts::{TextStop, described, read_decls, read_statement};

@@ -28,7 +28,7 @@ pub enum Problem {
     Syntax,
     /// The bracket at this place opens inside 64 others.
     Nesting(u32),
-    /// The first that lacks something, and the first condition that it does not meet.
+    /// The first that does not meet a condition, and the first condition that it does not meet.
     Unmet {
         unit: Unit,
         number: u64,
@@ -38,11 +38,6 @@ pub enum Problem {
     NoMatch(u64),
     /// At the place of this address a byte stands at 2^32 or above.
     AddressEnd(u64),
-    /// The first that lacks something has a form that is not built.
-    NotBuilt {
-        unit: Unit,
-        number: u64,
-    },
 }
 
 impl Problem {
@@ -61,7 +56,6 @@ impl Problem {
             Problem::Unmet { .. } => 8,
             Problem::NoMatch(_) => 9,
             Problem::AddressEnd(_) => 10,
-            Problem::NotBuilt { .. } => 90,
         }
     }
 }
@@ -94,7 +88,6 @@ fn problem_text(alloc: Global, problem: Problem) -> Result<String, AllocError>
         } => unmet_text(alloc, unit, number, condition),
         Problem::NoMatch(address) => no_match_text(alloc, address),
         Problem::AddressEnd(address) => address_end_text(alloc, address),
-        Problem::NotBuilt { unit, number } => not_built_text(alloc, unit, number),
     }
 }
 
@@ -103,13 +96,6 @@ fn unmet_text(alloc: Global, unit: Unit, number: u64, condition: u8) -> Result<S
 {
     let unit = unit_text(unit);
     format!(in alloc; "{unit} {number} does not meet condition {condition}")
-}
-
-fn not_built_text(alloc: Global, unit: Unit, number: u64) -> Result<String, AllocError>
-    ensures { IfOk result (λ s. string_bytes s ≡ of.not_built_text unit number) }
-{
-    let unit = unit_text(unit);
-    format!(in alloc; "{unit} {number} is not built yet")
 }
 
 #[tactic(auto, using(crate::proofs::Addresses::eight_digits))]

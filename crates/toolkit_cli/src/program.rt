@@ -3,7 +3,9 @@ ghost use Rattle.std.specs.Prelude.{◌≡◌, ◌⊎◌, ◌≢◌, ◌≤◌, 
 ghost use Rattle.std.specs.Option.{ForSome};
 ghost use Rattle.std.specs.Io.KnownBytes.{IsAtEnd, Keeps};
 ghost use Rattle.sled_base.specs.Causes.{Rose};
-ghost use Rattle.sled_model.specs.PlainStatements.{IsPlainStatement};
+ghost use Rattle.match_meaning.specs.Matchable.{IsMatchable};
+ghost use Rattle.image_listing.specs.Listing.{Taking};
+ghost use Rattle.disassembler.specs.Disassembly.{IsTakingOf};
 ghost use Rattle.toolkit_cli.specs.CommandWords.{command_words};
 ghost use Rattle.toolkit_cli.specs.Words.{words_of};
 ghost use Rattle.toolkit_cli.specs.Reply.{Settled, Settles, SettlesDis, TellsTexts, accepted, reply};
@@ -13,8 +15,8 @@ use crate::messages::Problem;
 use crate::status::Status;
 use crate::texts::{TextStop, described, read_decls, read_statement, say, tell};
 use crate::words::{Command, command_of};
+use disassembler::prepare;
 use image_listing::{ListFault, list};
-use match_engine::compile;
 use sled_base::{Shelf, Sink, Source};
 use sled_model::{Spec, Statement};
 use std::alloc::Global;
@@ -192,9 +194,9 @@ fn listed<I: Source, O: Sink, E: Sink>(
     out: &mut O,
     notes: &mut E,
 ) -> Status
-    requires { IsPlainStatement spec.now statement.now }
-    ensures stands { Stands (λ s. s ≡ accepted spec.now statement.now base) (I.left input.old)
-        (ReadsInput spec.now statement.now base
+    requires { IsMatchable spec.now statement.now }
+    ensures stands { (taking : Taking) → IsTakingOf spec.now statement.now taking → Stands (λ s. s ≡ accepted taking base) (I.left input.old)
+        (ReadsInput taking base
         (record { old = I.left input.old; new = I.left input.new; count = I.faults input.old; new_count = I.faults input.new })
         (record { old = O.contents out.old; new = O.contents out.new; count = O.faults out.old; new_count = O.faults out.new }))
         (record { old = O.contents out.old; new = O.contents out.new; count = O.faults out.old; new_count = O.faults out.new })
@@ -203,10 +205,10 @@ fn listed<I: Source, O: Sink, E: Sink>(
     ensures usage { result ≢ Status.Usage }
     ensures read_to_end { result ≡ Status.Done → IsAtEnd (I.left input.new) }
 {
-    let Ok(mut matcher) = compile(alloc, spec, statement) else {
+    let Ok(mut decoder) = prepare(alloc, spec, statement) else {
         return Status::NoMemory;
     };
-    match list(alloc, &mut matcher, base, input, out) {
+    match list(alloc, &mut decoder, base, input, out) {
         Ok(_) => Status::Done,
         Err(ListFault::NoMatch(address)) => tell(
             alloc,

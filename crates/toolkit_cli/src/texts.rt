@@ -2,8 +2,8 @@
 ghost use Rattle.std.specs.Prelude.{◌≡◌, ◌≢◌, ◌≤◌, ℕ, List, All, false, length, IfOk, IfErr, IsErrOf};
 ghost use Rattle.std.specs.Option.{ForSome};
 ghost use Rattle.sled_base.specs.Causes.{Rose};
-ghost use Rattle.sled_model.specs.PlainStatements.{IsPlainStatement};
-ghost use Rattle.sled_elab.specs.Descriptions.{described_in, HasNumbersInRange, IsSound};
+ghost use Rattle.match_meaning.specs.Matchable.{IsMatchable};
+ghost use Rattle.sled_elab.specs.Descriptions.{described_in, HasNumbersInRange, IsReadOnce, IsSound};
 ghost use Rattle.sled_parser.specs.Declarations.{IsDescription};
 ghost use Rattle.toolkit_cli.specs.Messages.{message as message_of};
 ghost use Rattle.toolkit_cli.specs.Texts as of;
@@ -12,11 +12,12 @@ ghost use Rattle.toolkit_cli.specs.Told.{Told};
 use crate::messages::{Problem, Unit, message};
 use crate::status::Status;
 use sled_base::{MAX_TEXT, Shelf, Sink, TextFault, load_text, write_all};
-use sled_elab::{Description, ElabFault, Lack, describe, elaborate_match};
+use sled_elab::{Description, ElabFault, describe};
 use sled_lexer::{LexFault, lex};
 use sled_model::Statement;
 use sled_parser::tree::Decl;
 use sled_parser::{SyntaxFault, parse_match, parse_spec};
+use statement_building::{StatementFault, elaborate_match};
 use std::alloc::Global;
 
 /// Why a text does not serve.
@@ -51,25 +52,27 @@ pub fn described<'a>(alloc: Global, decls: &'a [Decl]) -> Result<Description<'a>
     requires { All HasNumbersInRange decls.now }
     ensures made { IfOk result (λ d. (t : List ℕ) → of.IsParsed IsDescription t decls.now → of.IsDescribed t (described_in d)) }
     ensures sound { IfOk result (λ d. IsSound (described_in d)) }
+    ensures read { IfOk result (λ d. IsReadOnce d.spec) }
     ensures refused { IfErr result (λ stop. (t : List ℕ) → of.IsParsed IsDescription t decls.now → of.Stops of.RefusesDescription t stop) }
     ensures loaded { IfErr result (λ stop. stop ≢ TextStop.Unread) }
 {
     match describe(alloc, decls) {
         Ok(description) => Ok(description),
-        Err(fault) => Err(not_elaborated(Unit::Declaration, fault)),
+        Err(fault) => Err(not_described(fault)),
     }
 }
 
-/// The statement that the text of a name makes over a description.
+/// The statement that the text of a name makes over a description. It can be matched.
 pub fn read_statement<H: Shelf>(
     alloc: Global,
     shelf: &mut H,
     description: &Description<'_>,
     name: &str,
 ) -> Result<Statement, TextStop>
-    requires { IsSound (described_in description.now) }
+    requires sound { IsSound (described_in description.now) }
+    requires read { IsReadOnce description.now.spec }
     ensures made { IfOk result (λ statement. ForSome (H.text shelf.old name.now) (λ t. of.IsStated (described_in description.now) t statement)) }
-    ensures plain { IfOk result (IsPlainStatement description.now.spec) }
+    ensures matchable { IfOk result (IsMatchable description.now.spec) }
     ensures refused { IfErr result (λ stop. ForSome (H.text shelf.old name.now) (λ t. of.Stops (of.RefusesStatement (described_in description.now)) t stop)) }
     ensures there { IfOk result (λ _. H.lacks shelf.old name.now ≡ false) }
     ensures stops { IfErr result (of.StopsThere (H.lacks shelf.old name.now)) }
@@ -105,8 +108,9 @@ fn parsed(alloc: Global, text: &[u8]) -> Result<Vec<Decl>, TextStop>
 fn stated(alloc: Global, description: &Description<'_>, text: &[u8]) -> Result<Statement, TextStop>
     requires short { length text.now ≤ MAX_TEXT }
     requires sound { IsSound (described_in description.now) }
+    requires read { IsReadOnce description.now.spec }
     ensures made { IfOk result (of.IsStated (described_in description.now) text.now) }
-    ensures plain { IfOk result (IsPlainStatement description.now.spec) }
+    ensures matchable { IfOk result (IsMatchable description.now.spec) }
     ensures refused { IfErr result (of.Stops (of.RefusesStatement (described_in description.now)) text.now) }
     ensures loaded { IfErr result (λ stop. stop ≢ TextStop.Unread) }
 {
@@ -120,7 +124,7 @@ fn stated(alloc: Global, description: &Description<'_>, text: &[u8]) -> Result<S
     };
     match elaborate_match(alloc, &description.spec, &description.scope, &tree) {
         Ok(statement) => Ok(statement),
-        Err(fault) => Err(not_elaborated(Unit::Arm, fault)),
+        Err(fault) => Err(not_stated(fault)),
     }
 }
 
@@ -155,23 +159,32 @@ fn not_parsed(fault: SyntaxFault) -> TextStop
     }
 }
 
-fn not_elaborated(unit: Unit, fault: ElabFault) -> TextStop
-    ensures { result ≡ of.elab_stop unit fault }
+fn not_described(fault: ElabFault) -> TextStop
+    ensures { result ≡ of.elab_stop fault }
 {
     match fault {
-        ElabFault::Lacks {
-            number,
-            lack: Lack::Condition(condition),
+        ElabFault::Unmet {
+            declaration,
+            condition,
         } => TextStop::Refused(Problem::Unmet {
-            unit,
-            number,
+            unit: Unit::Declaration,
+            number: declaration,
             condition,
         }),
-        ElabFault::Lacks {
-            number,
-            lack: Lack::NotBuilt,
-        } => TextStop::Refused(Problem::NotBuilt { unit, number }),
         ElabFault::NoMemory => TextStop::NoMemory,
+    }
+}
+
+fn not_stated(fault: StatementFault) -> TextStop
+    ensures { result ≡ of.statement_stop fault }
+{
+    match fault {
+        StatementFault::Unmet { arm, condition } => TextStop::Refused(Problem::Unmet {
+            unit: Unit::Arm,
+            number: arm,
+            condition,
+        }),
+        StatementFault::NoMemory => TextStop::NoMemory,
     }
 }
 

@@ -1,6 +1,5 @@
-use Rattle.std.proofs.Common.{◌≡◌, None, ap, sym, subst}
-use Rattle.std.specs.Prelude.{Option}
-use Rattle.sled_elab.specs.declared.lack.Lack.{Lack}
+use Rattle.std.proofs.Common.{◌≡◌, None, sym, ap, subst}
+use Rattle.std.specs.Prelude.{IfOk}
 use Rattle.sled_elab.specs.Conditions.{IsLackOf}
 use Rattle.sled_elab.specs.Declarations.{Described, with_class}
 use Rattle.sled_elab.specs.Descriptions.{described_in}
@@ -18,7 +17,7 @@ returns-in-Class-clause-types c =
     (class_table d c.requires.sound.spec c.in-Class.name c.in-Class.width c.in-Class.little c.in-Class.fields c.args.types.now c.requires.types))
     c.declare_class.ensures.made
 
-pub returns-in_ok-unmet-in-ConstructorDecl-clause-lack : goal.returns-in_ok-unmet-in-ConstructorDecl-clause-lack
-returns-in_ok-unmet-in-ConstructorDecl-clause-lack c =
-    subst (λ x. IsLackOf (described_in c.args.description.now) x c.lack_of.result) (sym c.in-ConstructorDecl.is)
-    (c.in_ok-unmet-in-ConstructorDecl.unmet, c.in_ok-unmet-in-ConstructorDecl.ensures.unmet, c.lack_of.ensures)
+pub returns-in-ConstructorDecl-clause-lack : goal.returns-in-ConstructorDecl-clause-lack
+returns-in-ConstructorDecl-clause-lack c =
+    let d = described_in c.args.description.now in
+    subst (λ x. IfOk c.declare_constructor.result (IsLackOf d x)) (sym c.in-ConstructorDecl.is) c.declare_constructor.ensures.unmet

@@ -1,10 +1,12 @@
 use Rattle.std.proofs.Common.{◌∙◌, Some, None, take, drop, refl, sym, ap, subst, arith}
 use Rattle.std.proofs.Math.ListN.{drop_of_length-le}
+use Rattle.std.proofs.lemmas.List.Elements.{All-get_or}
 use Rattle.sled_elab.specs.Conditions.{IsLackOf, IsFirstLackFrom}
 use Rattle.sled_elab.specs.Declarations.{Described, nothing}
-use Rattle.sled_elab.specs.Descriptions.{described_in, HasPlainNames}
+use Rattle.sled_elab.specs.Descriptions.{described_in, HasNumbersInRange, HasPlainNames, IsReadOnce}
 use Rattle.sled_elab.proofs.DeclarationLemmas.{made_more, lack_past, lack_here, lack_end, next_within}
 use Rattle.sled_elab.proofs.PlainNames.{plain_after, nothing_plain}
+use Rattle.sled_elab.proofs.Readings.{read_after, nothing_read}
 use Rattle.sled_elab.proofs.declarations.describe.Goals as goal
 
 pub loop-decl-init : goal.loop-decl-init
@@ -14,6 +16,7 @@ loop-decl-init c =
       made = none;
       sound = c.new-description.ensures.sound;
       plain = subst (λ (d : Described). HasPlainNames d.declared) (sym none) nothing_plain;
+      read = subst (λ (d : Described). IsReadOnce d.spec) (sym none) nothing_read;
       types = c.new-types.ensures c.new-description.result.spec (ap (λ (d : Described). d.spec.type_names) none);
       lack = λ first h. subst (λ d. IsFirstLackFrom 1 d c.args.decls.now first) none h;
       small = omega arith;
@@ -29,6 +32,8 @@ loop-decl-preserved c =
       made = made_more decls i x c.loop-decl-test.true c.decl-item.is nothing old new c.loop-decl.invariant.made made;
       sound = c.in_ok-lack.ensures.sound c.in_default.is;
       plain = subst (λ (d : Described). HasPlainNames d.declared) (sym made) (plain_after old x c.loop-decl.invariant.sound c.loop-decl.invariant.plain met);
+      read = subst (λ (d : Described). IsReadOnce d.spec) (sym made)
+          (read_after old x (subst HasNumbersInRange (sym c.decl-item.is) (All-get_or HasNumbersInRange decls i x c.loop-decl-test.true c.requires)) c.loop-decl.invariant.sound c.loop-decl.invariant.plain c.loop-decl.invariant.read met);
       types = c.in_ok-lack.ensures.types c.in_default.is;
       lack = λ first h. c.loop-decl.invariant.lack first
           (lack_past decls i x c.loop-decl-test.true c.decl-item.is c.loop-decl.number c.next_number-number.result old new first made c.next_number-number.ensures met h);

@@ -1,8 +1,9 @@
 use Rattle.std.proofs.Common.{inl, inr, Err, refl, sym, ap, subst, ◌∙◌}
 use Rattle.sled_elab.specs.Descriptions.{described_in}
+use Rattle.disassembler.proofs.Taken.{taking_of}
 use Rattle.toolkit_cli.specs.declared.texts.TextStop.{TextStop}
 use Rattle.toolkit_cli.specs.Texts.{Stops, StopsThere, RefusesDescription, RefusesStatement, IsDescribed, IsStated}
-use Rattle.toolkit_cli.specs.Reply.{SettlesDis, Shelved, IsThere}
+use Rattle.toolkit_cli.specs.Reply.{SettlesDis, Shelved, IsThere, MakesBoth}
 use Rattle.toolkit_cli.specs.Stands.{Change}
 use Rattle.toolkit_cli.specs.CommandWords.{command_words}
 use Rattle.toolkit_cli.proofs.StandsLemmas.{Rose-later, stopped_stands, Stands-along, Keeps-same}
@@ -56,10 +57,13 @@ returns-clause-stands g c =
     let one : IsThere shelf c.args.command.now.spec.now (λ t. IsDescribed t d) =
     of_declarations shelf c.args.command.now.spec.now c.in-Ok.decls.items c.as_slice.result.now (λ t. IsDescribed t d) c.as_slice.ensures.value (c.in-Ok.ensures.there, c.in-Ok.ensures.made) c.in-Ok-described.ensures.made in
     let two : IsThere shelf name (λ t. IsStated d t statement) = (sym (c.read_decls.ensures.absent name) ∙ c.in-Ok-read_statement.ensures.there, λ t told. c.in-Ok-read_statement.ensures.made t (c.read_decls.ensures.texts name ∙ told)) in
+    let t = taking_of d.spec statement c.in-Ok-read_statement.ensures.matchable in
+    let both : MakesBoth (command_words c.args.command.now) shelf t.0 =
+    record { description = d; statement = statement; spec = one; stated = two; matchable = c.in-Ok-read_statement.ensures.matchable; takes = t.1 } in
     Stands-along _ _ _ _ _ _ _ _
-    (λ s e. subst (SettlesDis (command_words c.args.command.now) shelf) (sym e) (refl, (d, refl, one, two)))
-    (λ who read. inr (inr (read.0, (d.spec, statement, (d, refl, one, two), read.1))))
-    c.listed.ensures.stands
+    (λ s e. subst (SettlesDis (command_words c.args.command.now) shelf) (sym e) (refl, both))
+    (λ who read. inr (inr (read.0, (t.0, both, read.1))))
+    (c.listed.ensures.stands t.0 t.1)
 
 pub returns-clause-unasked : goal.returns-clause-unasked
 returns-clause-unasked g c =

@@ -1,3 +1,0 @@
-pub mod Taken
-pub mod Worked
-pub mod Matched

@@ -1,3 +1,0 @@
-pub mod Taken
-pub mod Example
-pub mod Matcher

@@ -1,9 +1,0 @@
-use Rattle.std.proofs.Common.{◌≡◌, ◌+◌, ◌-◌, ◌≤◌, length, drop}
-use Rattle.sled_elab.specs.Actions.{run_len, is_no_close}
-use Rattle.sled_elab.proofs.action.name_len.Given as goal
-
-abbrev pub decreases-loop-len : goal.decreases-loop-len
-decreases-loop-len l = length l.text - l.len
-
-abbrev pub invariant-loop-len : goal.invariant-loop-len
-invariant-loop-len l = (l.len + run_len is_no_close (drop l.len l.text) ≡ run_len is_no_close l.text) × (l.len ≤ length l.text)

@@ -1,6 +1,0 @@
-use Rattle.std.proofs.Common.{◌≡◌, take}
-use Rattle.tree_meaning.specs.NameTables.{table_names}
-use Rattle.sled_elab.proofs.arm.name_list.Given as goal
-
-abbrev pub invariant-loop-name : goal.invariant-loop-name
-invariant-loop-name l = l.list ≡ take l.name-index (table_names l.names)
