@@ -32,7 +32,7 @@ const TYPED: &str = "fields of b (8) op 4:7 r 0:3
       jump(t) { t = L + 2 * n! } is op = 5 & r = 0 ; n ; L: epsilon";
 
 // A loop that sums words.
-pub(crate) const SUM: &[u8] =
+const SUM: &[u8] =
     b"\x80\x92\x40\0\x04\x80\0\x07\x94\x10\x20\0\xd6\x02\x20\0\x90\x02\x20\x04\x92\x82\x7f\xff\x14\xbf\xff\xfd\x94\x02\x80\x0b\x81\xc3\xe0\x08\x90\x12\x80\0";
 
 const SUM_LINES: &str = "00000000: 80924000  orcc(9, rmode(0), 0)

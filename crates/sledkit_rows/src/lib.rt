@@ -4,8 +4,6 @@
 #[cfg(test)]
 mod application_tests;
 #[cfg(test)]
-mod graph_tests;
-#[cfg(test)]
 mod machines;
 #[cfg(test)]
 mod outside;
