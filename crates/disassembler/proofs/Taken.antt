@@ -1,5 +1,5 @@
 -- What stands at a place by a statement that can be matched.
-use Rattle.std.proofs.Common.{◌≡◌, ℕ, zero, suc, ◌+◌, ◌^◌, ◌<◌, ◌≤◌, ◌⊎◌, ltb, inl, inr, min, Bool, true, false, List, [], ◌∷◌, ◌++◌, length, take, decimal, slice_get, codes, All, Option, Some, None, IfSome, refl, sym, ap, ◌∙◌, subst, arith}
+use Rattle.std.proofs.Common.{◌≡◌, ℕ, zero, suc, ◌+◌, ◌^◌, ◌<◌, ◌≤◌, ◌⊎◌, ltb, inl, inr, min, List, [], ◌∷◌, ◌++◌, length, take, decimal, slice_get, codes, All, Option, Some, None, IfSome, refl, sym, ap, ◌∙◌, subst, arith}
 use Rattle.std.specs.Option.{option_map}
 use Rattle.std.proofs.lemmas.Bool.{lt-ltb, ltb-true, ltb-false, cases_Bool}
 use Rattle.std.proofs.lemmas.List.{length-take}

@@ -1,10 +1,9 @@
 -- The tests' description can be read, and their statement can be matched.
-use Rattle.std.proofs.Common.{ℕ, zero, suc, ◌≡◌, ◌≢◌, ◌<◌, ◌≤◌, inl, true, List, [], ◌∷◌, ◌++◌, map, codes, sym, All, AllPairs, Contains, length, slice_get, Option, Some, None, IfSome, IsSome, refl, ap, subst, arith}
+use Rattle.std.proofs.Common.{ℕ, zero, suc, ◌≡◌, ◌≢◌, ◌≤◌, inl, true, List, [], ◌∷◌, ◌++◌, map, codes, sym, All, AllPairs, Contains, slice_get, Option, Some, None, IfSome, IsSome, refl, ap, subst, arith}
 use Rattle.std.proofs.lemmas.List.Elements.{All-nil, All-cons, All-weaker, All-contains_itself}
 use Rattle.std.proofs.lemmas.List.Kept.{AllPairs-cons}
 use Rattle.token_bits.specs.Tokens.{IsWidth, IsFieldOf, AreTokens, token_len, value_at}
 use Rattle.token_bits.specs.declared.tokens.Class.{Class}
-use Rattle.sled_model.specs.declared.constructor.Constructor.{Constructor}
 use Rattle.sled_model.specs.declared.constructor.TypeId.{TypeId}
 use Rattle.sled_model.specs.declared.constructor.OperandKind.{OperandKind}
 use Rattle.sled_model.specs.declared.constructor.OperandKind.TheVariants.{Plain, Typed}
@@ -19,8 +18,8 @@ use Rattle.sled_model.specs.Linear.{IsEquationOf, IsLinear}
 use Rattle.sled_model.specs.PlainStatements.{IsMatchLength, IsBoundedArm}
 use Rattle.sled_model.specs.Results.{results_from, one_match, choice_match, arm_context, arm_results}
 use Rattle.sled_model.specs.Shapes.{spec_shapes, shapes, conjunctions_agree, lengths_within}
-use Rattle.sled_model.specs.Solved.{GivesOperand, IsHeldOnce, IsSolved}
-use Rattle.sled_model.specs.SolvingOrder.{IsDetermined, bare_fields, is_among}
+use Rattle.sled_model.specs.Solved.{GivesOperand, IsHeldOnce}
+use Rattle.sled_model.specs.SolvingOrder.{bare_fields, is_among}
 use Rattle.sled_model.specs.Specs.{IsKnownKind, IsConstructorOf, IsSpec}
 use Rattle.sled_model.proofs.ShapeKnown.{BodiesAgree}
 use Rattle.sled_model.proofs.ShapeResults.{results_within}

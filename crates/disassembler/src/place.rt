@@ -11,9 +11,11 @@ use arm_matching::ArmResult;
 use asm_text::write_action;
 use decision_tree::Peek;
 use image_listing::Decoder;
+use instance_reading::{Place, Scratch};
 use name_values::values;
 use sled_base::NoMemory;
 use std::alloc::Global;
+use std::mem;
 
 impl<'a> Decoder for Disassembler<'a> {
     ghost use Rattle.disassembler.specs.Disassembly.{IsTakingOf};
@@ -28,7 +30,10 @@ impl<'a> Decoder for Disassembler<'a> {
         window: &[u8],
         words: &mut Vec<u8>,
     ) -> Result<Option<usize>, NoMemory> {
-        taken(alloc, self, place, window, words)
+        let mut scratch = mem::replace(&mut self.scratch, Scratch::new(alloc));
+        let count = taken(alloc, self, &mut scratch, place, window, words);
+        self.scratch = scratch;
+        count
     }
 }
 
@@ -37,6 +42,7 @@ impl<'a> Decoder for Disassembler<'a> {
 fn taken(
     alloc: Global,
     d: &Disassembler<'_>,
+    scratch: &mut Scratch,
     place: u32,
     window: &[u8],
     words: &mut Vec<u8>,
@@ -48,7 +54,7 @@ fn taken(
     let mut peek = Peek::new(window);
     match d.matcher.first_result(&mut peek) {
         Some(found) => {
-            let count = arm_taken(alloc, d, place, window, found, words)?;
+            let count = arm_taken(alloc, d, scratch, place, window, found, words)?;
             Ok(Some(count))
         }
         None => skipped(d.statement, window, words),
@@ -59,6 +65,7 @@ fn taken(
 fn arm_taken(
     alloc: Global,
     d: &Disassembler<'_>,
+    scratch: &mut Scratch,
     place: u32,
     window: &[u8],
     found: ArmResult<'_>,
@@ -71,9 +78,13 @@ fn arm_taken(
     let Some(arm) = d.statement.arms.get(found.arm) else {
         unreachable!()
     };
-    let bound = found.skeleton.read(alloc, d.spec, window)?;
-    let entries = bound.entries.as_slice();
-    let values = values(alloc, d.spec, &d.plans, place, arm, entries)?;
+    let spots = found.skeleton.entries.as_slice();
+    let at = Place {
+        spec: d.spec,
+        window,
+        location: place,
+    };
+    let values = values(alloc, &d.plans, scratch, &at, arm, spots)?;
     write_action(alloc, d.spec, arm, &values, words)?;
     Ok(found.len as usize)
 }

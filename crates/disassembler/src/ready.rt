@@ -4,18 +4,20 @@ ghost use Rattle.match_meaning.specs.Matchable.{IsMatchable};
 ghost use Rattle.disassembler.specs.Ready.{IsPrepared};
 
 use arm_matching::{Matcher, compile};
-use instance_reading::{Plans, plans_of};
+use instance_reading::{Plans, Scratch, plans_of};
 use sled_base::NoMemory;
 use sled_model::{Spec, Statement};
 use std::alloc::Global;
 
-/// A statement made ready to tell the places of an image: its arms as one graph, and the solved equations of its description.
+/// A statement made ready to tell the places of an image: its arms as one graph, and the solved equations of its description. It keeps
+/// the buffers that reading a place needs, so that none is taken anew for each.
 #[derive(Drop)]
 pub struct Disassembler<'a> {
     pub(crate) spec: &'a Spec,
     pub(crate) statement: &'a Statement,
     pub(crate) matcher: Matcher<'a>,
     pub(crate) plans: Plans,
+    pub(crate) scratch: Scratch,
 }
 
 /// The statement, ready to tell the places of an image. `NoMemory` where there is no memory, and where `compile` of `arm_matching`
@@ -37,5 +39,6 @@ pub fn prepare<'a>(
         statement,
         matcher,
         plans,
+        scratch: Scratch::new(alloc),
     })
 }

@@ -1,5 +1,5 @@
 -- A result of a constructor's body, in a description that can be read.
-use Rattle.std.proofs.Common.{ℕ, ◌+◌, ◌≡◌, ◌≤◌, ◌<◌, List, [], slice_get, length, Contains, Option, Some, None, refl, subst, arith}
+use Rattle.std.proofs.Common.{ℕ, ◌+◌, ◌≡◌, ◌<◌, List, [], slice_get, Contains, Option, Some, None, refl, subst, arith}
 use Rattle.token_bits.proofs.Sound.{All-slice_get}
 use Rattle.sled_model.specs.declared.constructor.ConstructorId.{ConstructorId}
 use Rattle.sled_model.specs.declared.raw.RawEntry.{RawEntry}

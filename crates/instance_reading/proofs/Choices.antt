@@ -1,10 +1,11 @@
 -- An entry that is a choice is of its constructor and entries alone.
-use Rattle.std.proofs.Common.{◌≡◌, List, [], ◌∷◌, ap, sym, ◌∙◌}
+use Rattle.std.proofs.Common.{◌≡◌, ℕ, List, [], ◌∷◌, ap, sym, ◌∙◌}
 use Rattle.sled_model.specs.declared.constructor.ConstructorId.{ConstructorId}
 use Rattle.sled_model.specs.declared.pattern.Argument.{Argument}
 use Rattle.sled_model.specs.declared.raw.Raw.{Raw}
 use Rattle.sled_model.specs.declared.raw.RawEntry.{RawEntry, items-the_row-RawEntry, items_hidden-the_row-RawEntry-0}
-use Rattle.sled_model.specs.declared.raw.RawEntry.TheVariants.{Choice, Choice'}
+use Rattle.sled_model.specs.declared.raw.RawEntry.TheVariants.{Value, Mark, Choice, Choice'}
+use Rattle.token_bits.specs.declared.tokens.FieldId.{FieldId}
 
 taken : RawEntry → List (ConstructorId × List RawEntry)
 taken (Choice' k s inner arguments) = (k, items-the_row-RawEntry _ inner) ∷ []
@@ -31,3 +32,9 @@ choice_like k j inner outer arguments others e =
 
 pub choice_same : (k j : ConstructorId) (inner outer : List RawEntry) → Choice k (record { entries = inner }) [] ≡ Choice j (record { entries = outer }) [] → (k ≡ j) × (inner ≡ outer)
 choice_same k j inner outer e = choice_like k j (record { entries = inner }) (record { entries = outer }) [] [] e
+
+pub never_value : (f : FieldId) (value at' : ℕ) (k : ConstructorId) (inner : Raw) (arguments : List Argument) → Value f value at' ≡ Choice k inner arguments → ⊥
+never_value f value at' k inner arguments e = cc
+
+pub never_mark : (label at' : ℕ) (k : ConstructorId) (inner : Raw) (arguments : List Argument) → Mark label at' ≡ Choice k inner arguments → ⊥
+never_mark label at' k inner arguments e = cc

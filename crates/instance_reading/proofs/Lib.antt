@@ -9,6 +9,7 @@ pub mod Declared
 pub mod Inversions
 pub mod Meant
 pub mod Bodies
+pub mod Spots
 pub mod Lookups
 pub mod OneInstance
 pub mod Worked

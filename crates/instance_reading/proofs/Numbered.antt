@@ -18,7 +18,6 @@ use Rattle.sled_model.specs.SolvingOrder.{bare_fields}
 use Rattle.eq_solver.specs.Cells.{IsPlanOf}
 use Rattle.eq_solver.specs.Operands.{IsPlanWith, AreCellValues, AreOnlyOperands}
 use Rattle.eq_solver.specs.Sums.{at}
-use Rattle.eq_solver.specs.declared.plan.Plan.{Plan}
 use Rattle.match_meaning.specs.Readable.{IsReadable, IsReadableSpec}
 use Rattle.instance_reading.specs.Entries.{values_read, AreAddresses}
 use Rattle.instance_reading.specs.Operands.{AreNumbersOf}

@@ -1,21 +1,19 @@
 -- Operands that were read one after the other are those that the entries mean.
-use Rattle.std.proofs.Common.{ℕ, zero, suc, ◌+◌, ◌^◌, ◌≡◌, ◌≢◌, ◌<◌, ◌≤◌, ◌⊎◌, inl, inr, true, List, [], ◌∷◌, ◌++◌, length, take, get_or, AllPairs, slice_get, Option, Some, ℤ, pos, ◌≤ℤ◌, refl, sym, ap, ◌∙◌, subst, arith}
+use Rattle.std.proofs.Common.{ℕ, zero, suc, ◌+◌, ◌≡◌, ◌≢◌, ◌<◌, ◌≤◌, ◌⊎◌, inl, inr, true, List, [], ◌∷◌, ◌++◌, length, take, get_or, AllPairs, slice_get, Some, ℤ, pos, refl, sym, ap, ◌∙◌, subst, arith}
 use Rattle.std.specs.List.{filter_map}
 use Rattle.std.specs.Option.{option_map_or}
 use Rattle.std.proofs.lemmas.Bool.{cases_lt}
 use Rattle.std.proofs.lemmas.Int.{ints}
 use Rattle.std.proofs.lemmas.List.{get_or_past, length-take, take_more}
 use Rattle.std.proofs.lemmas.List.Elements.{All-contains}
-use Rattle.std.proofs.lemmas.Option.{slice_get_past, slice_get-get_or}
+use Rattle.std.proofs.lemmas.Option.{slice_get_past}
 use Rattle.token_bits.specs.declared.tokens.FieldId.{FieldId}
 use Rattle.sled_model.specs.declared.constructor.ConstructorId.{ConstructorId}
-use Rattle.sled_model.specs.declared.constructor.TypeId.{TypeId}
 use Rattle.sled_model.specs.declared.constructor.OperandKind.{OperandKind}
 use Rattle.sled_model.specs.declared.constructor.OperandKind.TheVariants.{Plain, Extended, Typed, Whole, Sliced}
 use Rattle.sled_model.specs.declared.constructor.Constructor.{Constructor}
-use Rattle.sled_model.specs.declared.instance.Instance.{Instance}
 use Rattle.sled_model.specs.declared.instance.Operand.{Operand}
-use Rattle.sled_model.specs.declared.instance.Operand.TheVariants.{Num, Sub}
+use Rattle.sled_model.specs.declared.instance.Operand.TheVariants.{Num}
 use Rattle.sled_model.specs.declared.raw.RawEntry.{RawEntry}
 use Rattle.sled_model.specs.declared.spec.Spec.{Spec}
 use Rattle.sled_model.specs.Equations.{half_of, sign_extended}

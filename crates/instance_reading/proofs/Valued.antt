@@ -1,11 +1,10 @@
 -- The values of fields and the addresses of labels, in the order in which a body has them.
-use Rattle.std.proofs.Common.{ℕ, zero, suc, ◌+◌, ◌^◌, ◌≡◌, ◌≢◌, ◌==◌, ◌<◌, ◌≤◌, ◌⊎◌, inl, inr, ⊎_elim, Bool, true, false, cond, List, [], ◌∷◌, ◌++◌, length, map, take, get_or, AllPairs, Contains, Option, Some, None, ℤ, pos, ◌+ℤ◌, refl, sym, ap, ◌∙◌, subst, arith}
+use Rattle.std.proofs.Common.{ℕ, ◌+◌, ◌^◌, ◌≡◌, ◌≢◌, ◌==◌, ◌<◌, ◌≤◌, ◌⊎◌, inl, inr, true, false, cond, List, [], ◌∷◌, length, map, get_or, AllPairs, Contains, Some, None, ℤ, pos, ◌+ℤ◌, refl, sym, ap, ◌∙◌, subst, arith}
 use Rattle.std.specs.List.{filter_map, cons_option}
 use Rattle.std.proofs.lemmas.Bool.{cases_lt}
 use Rattle.std.proofs.lemmas.Bool.Decides.{nat_tests}
 use Rattle.std.proofs.lemmas.Int.{ints}
-use Rattle.std.proofs.lemmas.List.{length-map, get_or-map, get_or_past, take_more}
-use Rattle.std.proofs.lemmas.List.Elements.{filter_map-append}
+use Rattle.std.proofs.lemmas.List.{length-map, get_or-map, get_or_past}
 use Rattle.token_bits.specs.declared.tokens.FieldId.{FieldId}
 use Rattle.token_bits.specs.declared.tokens.Tokens.{Tokens}
 use Rattle.sled_model.specs.declared.raw.RawEntry.{RawEntry}
@@ -16,7 +15,7 @@ use Rattle.sled_model.specs.Solved.{AreLabelValues}
 use Rattle.sled_model.proofs.Members.{Contains-nil, Contains-here, Contains-there, Contains-cons_cases}
 use Rattle.eq_solver.specs.Operands.{AreCellValues}
 use Rattle.eq_solver.specs.Sums.{at}
-use Rattle.instance_reading.specs.Entries.{value_read, values_read, AreAddresses}
+use Rattle.instance_reading.specs.Entries.{values_read, AreAddresses}
 use Rattle.instance_reading.proofs.BodyReads.{read_field}
 use Rattle.instance_reading.proofs.Entries.{pairs_head, pairs_tail, read_there}
 
@@ -51,11 +50,6 @@ values_same (Value g v at' ∷ entries) h =
     ∙ values_same entries (pairs_tail (λ f g. f ≢ g) g.0 fs h))
 values_same (Mark label at' ∷ entries) h = values_same entries h
 values_same (Choice' k s inner arguments ∷ entries) h = values_same entries h
-
--- one entry more
-pub values_more : (entries : List RawEntry) (i : ℕ) (entry : RawEntry) → i < length entries → entry ≡ get_or entries i entry → values_read (take (i + 1) entries) ≡ values_read (take i entries) ++ values_read (entry ∷ [])
-values_more entries i entry l e =
-    ap values_read (take_more entries i entry l ∙ ap (λ x. take i entries ++ x ∷ []) (sym e)) ∙ filter_map-append value_read (take i entries) (entry ∷ [])
 
 -- the value of a field that was read
 pub value_is : (entries : List RawEntry) (f : FieldId) (v at' : ℕ) → AllPairs (λ f g. f ≢ g) (filter_map read_field entries) → Contains entries (Value f v at') → fields_in entries f.0 ≡ pos v

@@ -1,43 +1,61 @@
-// What the entries of a body hold: values of fields, offsets of labels, and choices.
-ghost use Rattle.std.specs.Prelude.{◌≡◌, ◌++◌, ◌∷◌, [], filter, slice_get, option_copied, IfOk, OnOk};
+// What the entries of a body hold, read from spots in a window: values of fields, offsets of labels, and choices.
+ghost use Rattle.std.specs.Prelude.{◌≡◌, ◌++◌, ◌∷◌, [], filter, slice_get, option_copied, OnOk};
 ghost use Rattle.std.specs.List.{filter_map};
-ghost use Rattle.sled_model.specs.Instances.{label_read, first_or_zero};
-ghost use Rattle.sled_model.specs.Results.{is_choice};
-ghost use Rattle.instance_reading.specs.Entries.{values_read, place_among, chosen_by, AreAddresses};
+ghost use Rattle.token_bits.specs.Tokens.{AreTokens};
+ghost use Rattle.sled_model.specs.Instances.{first_or_zero};
+ghost use Rattle.pattern_normal.specs.Skeletons.{read_spot, read_entries, is_choice_spot};
+ghost use Rattle.instance_reading.specs.Entries.{values_read, place_among, chosen_spot, spot_label, AreSpotAddresses};
 
+use pattern_normal::Spot;
 use sled_base::NoMemory;
-use sled_model::RawEntry;
-use sqlite_items::Items;
 use std::alloc::Global;
+use token_bits::Tokens;
 
-/// Appends the value, where the entry is one of a field.
-fn push_value(found: &mut Items<i64>, entry: &RawEntry) -> Result<(), NoMemory>
-    ensures { OnOk result (found.new ≡ found.old ++ values_read (entry.now ∷ [])) }
+/// Appends the value in the window, where the spot is one of a field.
+fn push_value(
+    found: &mut Vec<i64>,
+    tokens: &Tokens,
+    window: &[u8],
+    spot: &Spot,
+) -> Result<(), NoMemory>
+    requires { AreTokens tokens.now }
+    ensures { OnOk result (found.new.items ≡ found.old.items ++ values_read (read_spot tokens.now window.now spot.now ∷ [])) }
 {
-    match entry {
-        RawEntry::Value { value, .. } => Ok(found.push(i64::from(*value))?),
-        RawEntry::Mark { .. } => Ok(()),
-        RawEntry::Choice { .. } => Ok(()),
+    match spot {
+        Spot::Value { field, at } => {
+            let value = tokens
+                .field_value(*field, window, *at as usize)
+                .unwrap_or(0);
+            Ok(found.push(i64::from(value))?)
+        }
+        Spot::Mark { .. } => Ok(()),
+        Spot::Choice { .. } => Ok(()),
     }
 }
 
 /// The values of fields, in order.
-pub(crate) fn values(alloc: Global, entries: &[RawEntry]) -> Result<Items<i64>, NoMemory>
-    ensures { IfOk result (λ found. found ≡ values_read entries.now) }
+pub(crate) fn read_values(
+    found: &mut Vec<i64>,
+    tokens: &Tokens,
+    window: &[u8],
+    spots: &[Spot],
+) -> Result<(), NoMemory>
+    requires { AreTokens tokens.now }
+    ensures { OnOk result (found.new.items ≡ values_read (read_entries tokens.now window.now spots.now)) }
 {
-    let mut found = Items::new(alloc);
-    for entry in entries {
-        push_value(&mut found, entry)?;
+    found.clear();
+    for spot in spots {
+        push_value(found, tokens, window, spot)?;
     }
-    Ok(found)
+    Ok(())
 }
 
 /// The offset of the label, or 0 where it does not stand.
-fn offset_of(entries: &[RawEntry], label: usize) -> u8
-    ensures { result ≡ first_or_zero (filter_map (label_read label) entries.now) }
+fn offset_of(spots: &[Spot], label: usize) -> u8
+    ensures { result ≡ first_or_zero (filter_map (spot_label label) spots.now) }
 {
-    for entry in entries {
-        if let RawEntry::Mark { label: marked, at } = entry {
+    for spot in spots {
+        if let Spot::Mark { label: marked, at } = spot {
             if *marked as usize == label {
                 return *at;
             }
@@ -47,30 +65,30 @@ fn offset_of(entries: &[RawEntry], label: usize) -> u8
 }
 
 /// The addresses of the first labels, as many as `count`, in a match at the location.
-pub(crate) fn addresses(
-    alloc: Global,
+pub(crate) fn read_addresses(
+    found: &mut Vec<i64>,
     location: u32,
-    entries: &[RawEntry],
+    spots: &[Spot],
     count: usize,
-) -> Result<Items<i64>, NoMemory>
-    ensures { IfOk result (AreAddresses location entries.now count) }
+) -> Result<(), NoMemory>
+    ensures { OnOk result (AreSpotAddresses location spots.now count found.new.items) }
 {
-    let mut found = Items::new(alloc);
+    found.clear();
     for label in 0..count {
-        found.push(i64::from(location) + i64::from(offset_of(entries, label)))?;
+        found.push(i64::from(location) + i64::from(offset_of(spots, label)))?;
     }
-    Ok(found)
+    Ok(())
 }
 
-/// The choice of this number, among the entries that are choices.
-fn nth_choice(entries: &[RawEntry], number: usize) -> Option<&RawEntry>
-    ensures { option_copied result ≡ slice_get (filter is_choice entries.now) number }
+/// The choice of this number, among the spots that are choices.
+fn nth_choice(spots: &[Spot], number: usize) -> Option<&Spot>
+    ensures { option_copied result ≡ slice_get (filter is_choice_spot spots.now) number }
 {
     let mut left = number;
-    for entry in entries {
-        if matches!(entry, RawEntry::Choice { .. }) {
+    for spot in spots {
+        if matches!(spot, Spot::Choice { .. }) {
             if left == 0 {
-                return Some(entry);
+                return Some(spot);
             }
             left -= 1;
         }
@@ -88,13 +106,13 @@ fn place_of(standing: &[u32], operand: usize) -> Option<usize>
 /// The choice for an operand of a body in which these operands stand.
 pub(crate) fn choice_for<'a>(
     standing: &[u32],
-    entries: &'a [RawEntry],
+    spots: &'a [Spot],
     operand: usize,
-) -> Option<&'a RawEntry>
-    ensures { option_copied result ≡ chosen_by standing.now entries.now operand }
+) -> Option<&'a Spot>
+    ensures { option_copied result ≡ chosen_spot standing.now spots.now operand }
 {
     match place_of(standing, operand) {
         None => None,
-        Some(place) => nth_choice(entries, place),
+        Some(place) => nth_choice(spots, place),
     }
 }

@@ -5,3 +5,4 @@ pub mod Results
 pub mod OneValue
 pub mod Zips
 pub mod Worked
+pub mod InOrder

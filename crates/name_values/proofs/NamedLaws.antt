@@ -1,10 +1,10 @@
 -- What arguments give a name, seen as lists.
-use Rattle.std.proofs.Common.{◌≡◌, ℕ, ◌+◌, List, [], ◌∷◌, Option, Some, slice_get, refl, ap, ◌∙◌}
+use Rattle.std.proofs.Common.{◌≡◌, ℕ, ◌+◌, List, Option, Some, slice_get, refl, ap, ◌∙◌}
 use Rattle.std.specs.Option.{option_or}
 use Rattle.sled_model.specs.declared.constructor.ConstructorId.{ConstructorId}
 use Rattle.sled_model.specs.declared.instance.Instance.{Instance}
-use Rattle.sled_model.specs.declared.instance.Operand.{Operand, items-the_row-Operand, items_hidden-the_row-Operand-0}
-use Rattle.sled_model.specs.declared.instance.Operand.TheBlock.{hidden-the_row-Instance-1, hidden-the_row-Operand-0}
+use Rattle.sled_model.specs.declared.instance.Operand.{Operand, items_hidden-the_row-Operand-0}
+use Rattle.sled_model.specs.declared.instance.Operand.TheBlock.{hidden-the_row-Instance-1}
 use Rattle.sled_model.specs.declared.instance.Operand.TheVariants.{Sub}
 use Rattle.sled_model.specs.declared.pattern.Argument.{Argument}
 use Rattle.sled_model.specs.declared.pattern.Argument.TheVariants.{Inner}

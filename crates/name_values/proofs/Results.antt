@@ -1,5 +1,5 @@
 -- The choices in a result of an arm are of results of their constructors' bodies.
-use Rattle.std.proofs.Common.{◌≡◌, ℕ, ◌+◌, ◌≤◌, max, Bool, true, false, cond, List, [], ◌∷◌, ◌++◌, map, filter, All, Contains, slice_get, Option, Some, None, refl, sym, subst, arith}
+use Rattle.std.proofs.Common.{◌≡◌, ℕ, ◌+◌, ◌≤◌, max, Bool, true, false, cond, List, [], ◌∷◌, map, filter, All, Contains, slice_get, Option, Some, None, refl, sym, arith}
 use Rattle.std.specs.List.{flat_map, fold}
 use Rattle.std.proofs.lemmas.List.Elements.{All-nil, All-cons, All-append, All-map, All-filter, All-head, All-tail, All-weaker, All-contains_itself}
 use Rattle.token_bits.specs.Tokens.{byte_count, token, token_len, value_at}
@@ -12,13 +12,10 @@ use Rattle.sled_model.specs.declared.raw.RawEntry.{RawEntry, items-the_row-RawEn
 use Rattle.sled_model.specs.declared.raw.RawEntry.TheVariants.{Value, Mark, Choice'}
 use Rattle.sled_model.specs.declared.spec.Spec.{Spec}
 use Rattle.sled_model.specs.declared.statement.Arm.{Arm}
-use Rattle.sled_model.specs.declared.statement.Statement.{Statement}
-use Rattle.sled_model.specs.First.{first}
 use Rattle.sled_model.specs.PlainStatements.{IsBoundedArm}
-use Rattle.sled_model.specs.Results.{Meaning, Known, Context, known_from, results, row_meanings, results_from, one_match, has_relation, kind_results, choice_match, either, chain, chain_match, both, both_match, agrees, fold_meanings, boxed_meaning, label_match, loose_match, arguments_admit, application_results, arm_context, arm_results}
+use Rattle.sled_model.specs.Results.{Meaning, Known, known_from, results, row_meanings, results_from, one_match, has_relation, kind_results, choice_match, either, chain, chain_match, both, both_match, agrees, fold_meanings, boxed_meaning, label_match, loose_match, arguments_admit, application_results, arm_context, arm_results}
 use Rattle.sled_model.proofs.Front.{first_from-has, bounded-length}
-use Rattle.match_meaning.specs.Matchable.{IsMatchable, IsMatchableArm}
-use Rattle.instance_reading.specs.Reading.{IsBodyResult}
+use Rattle.match_meaning.specs.Matchable.{IsMatchableArm}
 use Rattle.name_values.specs.Values.{IsBodyChoice}
 use Rattle.name_values.specs.Laws.{ArmResultsMean}
 

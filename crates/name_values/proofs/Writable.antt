@@ -1,15 +1,14 @@
 -- What arguments name of an instance can be written where the instance can.
-use Rattle.std.proofs.Common.{◌≡◌, ℕ, zero, suc, ◌+◌, ◌==◌, Bool, true, false, cond, List, [], ◌∷◌, length, All, Option, Some, None, IfSome, slice_get, refl, sym, ap, ◌∙◌, subst}
+use Rattle.std.proofs.Common.{◌≡◌, ℕ, zero, suc, ◌+◌, ◌==◌, Bool, true, false, cond, List, [], ◌∷◌, All, Option, Some, None, IfSome, slice_get, refl, sym, ap, ◌∙◌, subst}
 use Rattle.std.specs.Prelude.{◌&&◌}
-use Rattle.std.specs.Option.{option_map, option_map_or, option_or}
+use Rattle.std.specs.Option.{option_map_or, option_or}
 use Rattle.std.proofs.lemmas.List.Elements.{All-nil, All-cons, All-head, All-tail}
-use Rattle.sled_model.specs.declared.constructor.Constructor.{Constructor}
 use Rattle.sled_model.specs.declared.constructor.OperandKind.{OperandKind}
 use Rattle.sled_model.specs.declared.instance.Instance.{Instance}
 use Rattle.sled_model.specs.declared.instance.Operand.{Operand, roll-Operand, out-Operand, roll-out-Operand}
 use Rattle.sled_model.specs.declared.instance.Operand.TheOpen.{Operand-F}
 use Rattle.sled_model.specs.declared.instance.Operand.TheOpen as one
-use Rattle.sled_model.specs.declared.instance.Operand.TheVariants.{Num, Place, Sub, rolls-Num, rolls-Place, rolls-Sub}
+use Rattle.sled_model.specs.declared.instance.Operand.TheVariants.{rolls-Num, rolls-Place, rolls-Sub}
 use Rattle.sled_model.specs.declared.pattern.Argument.{Argument}
 use Rattle.sled_model.specs.declared.pattern.Argument.TheVariants.{Any, Name, Inner'}
 use Rattle.sled_model.specs.declared.pattern.Pattern.{Pattern, Row_of-Pattern, end_of-Pattern, more_of-Pattern, Row_of-Argument, end_of-Argument, more_of-Argument}

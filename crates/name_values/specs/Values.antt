@@ -5,9 +5,19 @@ use Rattle.sled_model.specs.declared.instance.Operand.{Operand}
 use Rattle.sled_model.specs.declared.raw.RawEntry.{RawEntry, items-the_row-RawEntry}
 use Rattle.sled_model.specs.declared.raw.RawEntry.TheVariants.{Choice'}
 use Rattle.sled_model.specs.declared.spec.Spec.{Spec}
+use Rattle.pattern_normal.specs.declared.skeleton.Spot.{Spot}
+use Rattle.pattern_normal.specs.Skeletons.{read_spot, read_entries}
 use Rattle.asm_text.specs.Writable.{HasNoPlace, IsAdmitted}
 use Rattle.match_meaning.specs.Names.{AreNameValues}
 use Rattle.instance_reading.specs.Reading.{IsBodyResult, IsMeant}
+use Rattle.instance_reading.specs.declared.place.Place.{Place}
+
+-- what a spot binds there, with its value
+abbrev pub entry_at : Place → Spot → RawEntry
+entry_at place spot = read_spot place.spec.now.tokens place.window.now spot
+
+abbrev pub entries_at : Place → List Spot → List RawEntry
+entries_at place spots = read_entries place.spec.now.tokens place.window.now spots
 
 -- where the entry is a choice, its entries are those of a result of its constructor's body
 abbrev pub IsBodyChoice : Spec → RawEntry → Type 0

@@ -1,114 +1,121 @@
-// What the entries of a result give the names of an arm.
+// What the spots of a result give the names of an arm.
 ghost use Rattle.std.specs.Prelude.{◌≡◌, ◌<◌, ◌^◌, All, IfOk, pos, if◌then◌else◌};
 ghost use Rattle.std.specs.List.{AllZip};
+ghost use Rattle.token_bits.specs.Tokens.{AreTokens};
 ghost use Rattle.sled_model.specs.declared.instance.Operand.TheVariants.{Num};
 ghost use Rattle.match_meaning.specs.Names.{Gives, IsNameValue};
 ghost use Rattle.match_meaning.specs.Readable.{IsReadableSpec};
 ghost use Rattle.instance_reading.specs.Plans.{ArePlansOf};
-ghost use Rattle.name_values.specs.Values.{IsBodyChoice, IsReadAs};
+ghost use Rattle.name_values.specs.Values.{entry_at, entries_at, IsBodyChoice, IsReadAs};
 
 use crate::arguments::{argument_value, copy_operand};
-use instance_reading::{Plans, instance_of};
+use instance_reading::{Place, Plans, Scratch, instance_of};
+use pattern_normal::Spot;
 use sled_base::NoMemory;
-use sled_model::{Instance, Operand, RawEntry, Spec, is_named};
+use sled_model::{Instance, Operand, is_named};
 use sqlite_items::Items;
 use std::alloc::Global;
 
-/// For each entry the instance that it means, where it is a choice.
+/// For each spot the instance that it means, where it is a choice.
 pub(crate) type Instances = Items<Option<Instance>>;
 
-/// The instances that the choices among the entries mean.
+/// The instances that the choices among the spots mean.
 pub(crate) fn instances_of(
     alloc: Global,
-    spec: &Spec,
     plans: &Plans,
-    location: u32,
-    entries: &[RawEntry],
+    scratch: &mut Scratch,
+    place: &Place<'_>,
+    spots: &[Spot],
 ) -> Result<Instances, NoMemory>
-    requires readable { IsReadableSpec spec.now }
-    requires plans { ArePlansOf spec.now plans.now }
-    requires results { All (IsBodyChoice spec.now) entries.now }
-    ensures { IfOk result (AllZip (IsReadAs spec.now location) entries.now) }
+    requires readable { IsReadableSpec place.now.spec.now }
+    requires plans { ArePlansOf place.now.spec.now plans.now }
+    requires results { All (IsBodyChoice place.now.spec.now) (entries_at place.now spots.now) }
+    ensures { IfOk result (AllZip (IsReadAs place.now.spec.now place.now.location) (entries_at place.now spots.now)) }
 {
     let mut instances = Items::new(alloc);
-    for entry in entries {
-        instances.push(entry_instance(alloc, spec, plans, location, entry)?)?;
+    for spot in spots {
+        instances.push(spot_instance(alloc, plans, scratch, place, spot)?)?;
     }
     Ok(instances)
 }
 
-/// The instance that the entry means, where it is a choice.
-fn entry_instance(
+/// The instance that the spot means, where it is a choice.
+fn spot_instance(
     alloc: Global,
-    spec: &Spec,
     plans: &Plans,
-    location: u32,
-    entry: &RawEntry,
+    scratch: &mut Scratch,
+    place: &Place<'_>,
+    spot: &Spot,
 ) -> Result<Option<Instance>, NoMemory>
-    requires readable { IsReadableSpec spec.now }
-    requires plans { ArePlansOf spec.now plans.now }
-    requires results { IsBodyChoice spec.now entry.now }
-    ensures { IfOk result (IsReadAs spec.now location entry.now) }
+    requires readable { IsReadableSpec place.now.spec.now }
+    requires plans { ArePlansOf place.now.spec.now plans.now }
+    requires results { IsBodyChoice place.now.spec.now (entry_at place.now spot.now) }
+    ensures { IfOk result (IsReadAs place.now.spec.now place.now.location (entry_at place.now spot.now)) }
 {
-    match entry {
-        RawEntry::Value { .. } => Ok(None),
-        RawEntry::Mark { .. } => Ok(None),
-        RawEntry::Choice {
+    match spot {
+        Spot::Value { .. } => Ok(None),
+        Spot::Mark { .. } => Ok(None),
+        Spot::Choice {
             constructor,
             inner,
             ..
         } => {
-            let entries = inner.entries.as_slice();
-            let instance = instance_of(alloc, spec, plans, location, *constructor, entries)?;
+            let inner = inner.entries.as_slice();
+            let instance = instance_of(alloc, plans, scratch, place, *constructor, inner)?;
             Ok(Some(instance))
         }
     }
 }
 
-/// The value of the arm's name number `k`, which is spelled so: the first that an entry gives, and 0 where none gives one.
+/// The value of the arm's name number `k`, which is spelled so: the first that a spot gives, and 0 where none gives one.
 pub(crate) fn name_value(
     alloc: Global,
-    spec: &Spec,
-    location: u32,
+    place: &Place<'_>,
     name: &[u8],
     k: usize,
-    entries: &[RawEntry],
+    spots: &[Spot],
     instances: &[Option<Instance>],
 ) -> Result<Operand, NoMemory>
-    requires { AllZip (IsReadAs spec.now location) entries.now instances.now }
-    ensures { IfOk result (IsNameValue spec.now location name.now k entries.now) }
+    requires tokens { AreTokens place.now.spec.now.tokens }
+    requires read { AllZip (IsReadAs place.now.spec.now place.now.location) (entries_at place.now spots.now) instances.now }
+    ensures { IfOk result (IsNameValue place.now.spec.now place.now.location name.now k (entries_at place.now spots.now)) }
 {
-    for (i, entry) in entries.iter().enumerate() {
+    for (i, spot) in spots.iter().enumerate() {
         let instance = &instances[i];
-        if let Some(value) = given(alloc, spec, location, name, k, entry, instance)? {
+        if let Some(value) = given(alloc, place, name, k, spot, instance)? {
             return Ok(value);
         }
     }
     Ok(Operand::Num(0))
 }
 
-/// What the entry gives that name, where as a choice it means this instance.
+/// What the spot gives that name, where as a choice it means this instance.
 fn given(
     alloc: Global,
-    spec: &Spec,
-    location: u32,
+    place: &Place<'_>,
     name: &[u8],
     k: usize,
-    entry: &RawEntry,
+    spot: &Spot,
     instance: &Option<Instance>,
 ) -> Result<Option<Operand>, NoMemory>
-    requires { IsReadAs spec.now location entry.now instance.now }
-    ensures { IfOk result (Gives spec.now location name.now k entry.now) }
+    requires tokens { AreTokens place.now.spec.now.tokens }
+    requires read { IsReadAs place.now.spec.now place.now.location (entry_at place.now spot.now) instance.now }
+    ensures { IfOk result (Gives place.now.spec.now place.now.location name.now k (entry_at place.now spot.now)) }
 {
-    match entry {
-        RawEntry::Value { field, value, .. } => {
-            Ok(number_if(is_named(spec, *field, name), u64::from(*value)))
+    match spot {
+        Spot::Value { field, at } => {
+            let value = place
+                .spec
+                .tokens
+                .field_value(*field, place.window, *at as usize)
+                .unwrap_or(0);
+            Ok(number_if(is_named(place.spec, *field, name), u64::from(value)))
         }
-        RawEntry::Mark { label, at } => Ok(number_if(
+        Spot::Mark { label, at } => Ok(number_if(
             *label as usize == k,
-            u64::from(location) + u64::from(*at),
+            u64::from(place.location) + u64::from(*at),
         )),
-        RawEntry::Choice { arguments, .. } => {
+        Spot::Choice { arguments, .. } => {
             let Some(instance) = instance else {
                 unreachable!()
             };

@@ -8,6 +8,7 @@ mod laws;
 mod names;
 #[cfg(test)]
 mod tests;
+mod whole;
 
 pub use laws::{arm_results_mean, one_value_each};
 pub use names::values;

@@ -1,12 +1,13 @@
 ghost use Rattle.std.specs.Prelude.{◌≡◌, [], ◌∷◌, codes, IfOk};
-ghost use Rattle.sled_model.specs.declared.raw.RawEntry.TheVariants.{Value, Mark};
+ghost use Rattle.pattern_normal.specs.declared.skeleton.Spot.TheVariants.{Value, Mark};
 ghost use Rattle.instance_reading.specs.Example.{y, description as description_of};
 
 use crate::{arm_results_mean, one_value_each, values};
-use instance_reading::{example_row, plans_of};
+use instance_reading::{Place, Scratch, example_row, plans_of};
+use pattern_normal::Spot;
 use sled_base::NoMemory;
 use sled_model::{
-    Arm, Constructor, ConstructorNames, Operand, OperandKind, OperandList, Pattern, RawEntry, Spec,
+    Arm, Constructor, ConstructorNames, Operand, OperandKind, OperandList, Pattern, Spec,
 };
 use sqlite_items::Items;
 use std::alloc::Global;
@@ -84,37 +85,40 @@ fn named(alloc: Global, names: &[&[u8]]) -> Result<Arm, NoMemory> {
     })
 }
 
-/// `y` is read twice, as 3 and then as 5, and label 1 stands at 2.
-fn entries(alloc: Global) -> Result<Items<RawEntry>, NoMemory>
-    ensures { IfOk result (λ entries. entries ≡ Value y 3 0 ∷ Mark 1 2 ∷ Value y 5 2 ∷ []) }
+/// `y` is read in the first byte and in the third, and label 1 stands at 2.
+fn spots(alloc: Global) -> Result<Items<Spot>, NoMemory>
+    ensures { IfOk result (λ spots. spots ≡ Value y 0 ∷ Mark 1 2 ∷ Value y 2 ∷ []) }
 {
-    let mut entries = Items::new(alloc);
-    entries.push(RawEntry::Value {
+    let mut spots = Items::new(alloc);
+    spots.push(Spot::Value {
         field: FieldId(0),
-        value: 3,
         at: 0,
     })?;
-    entries.push(RawEntry::Mark { label: 1, at: 2 })?;
-    entries.push(RawEntry::Value {
+    spots.push(Spot::Mark { label: 1, at: 2 })?;
+    spots.push(Spot::Value {
         field: FieldId(0),
-        value: 5,
         at: 2,
     })?;
-    Ok(entries)
+    Ok(spots)
 }
 
-/// The values of `y`, of label 1 and of a name that no entry gives one, in a result at 16.
+/// The values of `y`, of label 1 and of a name that no spot gives one, in a result at 16.
 fn three_values(alloc: Global) -> Result<OperandList, NoMemory> {
     example_row();
     let spec = description(alloc)?;
     let plans = plans_of(alloc, &spec)?;
+    let mut scratch = Scratch::new(alloc);
     let arm = named(
         alloc,
         &[b"y".as_slice(), b"here".as_slice(), b"x".as_slice()],
     )?;
-    let bound = entries(alloc)?;
-    let entries = bound.as_slice();
-    values(alloc, &spec, &plans, 16, &arm, entries)
+    let bound = spots(alloc)?;
+    let place = Place {
+        spec: &spec,
+        window: &[0x35, 0x00, 0x57],
+        location: 16,
+    };
+    values(alloc, &plans, &mut scratch, &place, &arm, bound.as_slice())
 }
 
 #[test]

@@ -1,6 +1,5 @@
-use Rattle.std.proofs.Common.{◌≡◌, List, All, Some, sym, ap, subst, ◌∙◌}
+use Rattle.std.proofs.Common.{◌≡◌, List, All, sym, ap, subst}
 use Rattle.token_bits.proofs.Sound.{All-slice_get}
-use Rattle.sled_model.specs.declared.raw.Raw.{Raw}
 use Rattle.sled_model.specs.declared.raw.RawEntry.{RawEntry}
 use Rattle.pattern_normal.specs.Skeletons.{read_entries}
 use Rattle.match_meaning.specs.Matchable.{IsMatchableArm}
@@ -21,7 +20,7 @@ values-requires-clause-results c =
     let d = c.args.d.now in let spec = d.spec.now in let statement = d.statement.now in let found = c.args.found in let window = c.args.window.now in
     let h = matchable_of d c.requires.prepared in
     let binds = read_entries spec.tokens window found.skeleton.now.entries in
-    let are : c.as_slice-entries.result.now ≡ binds = c.as_slice-entries.ensures ∙ ap (λ (r : Raw). r.entries) c.in_ok-bound.ensures in
+    let are : read_entries spec.tokens window c.as_slice-spots.result.now ≡ binds = ap (read_entries spec.tokens window) c.as_slice-spots.ensures in
     subst (All (IsBodyChoice spec)) (sym are) (choices_of spec statement h window found.arm binds found.len (first_told spec statement h window found.arm binds found.len c.requires.found))
 
 pub write_action-requires-clause-named : goal.write_action-requires-clause-named
@@ -35,7 +34,7 @@ returns c =
     let d = c.args.d.now in let spec = d.spec.now in let statement = d.statement.now in let found = c.args.found in let window = c.args.window.now in let place = c.args.place in
     let h = matchable_of d c.requires.prepared in
     let binds = read_entries spec.tokens window found.skeleton.now.entries in
-    let are : c.as_slice-entries.result.now ≡ binds = c.as_slice-entries.ensures ∙ ap (λ (r : Raw). r.entries) c.in_ok-bound.ensures in
+    let are : read_entries spec.tokens window c.as_slice-spots.result.now ≡ binds = ap (read_entries spec.tokens window) c.as_slice-spots.ensures in
     let arm = c.in-Some.arm.now in
     arm_at spec statement h place window found.arm binds found.len arm c.in_ok-values.values _ _ (first_told spec statement h window found.arm binds found.len c.requires.found) (sym c.in-Some.ensures.value)
     (subst (λ (es : List RawEntry). AreNameValues spec place es 0 arm.names c.in_ok-values.values) are c.in_ok-values.ensures.are) c.in_ok-write_action.ensures.written

@@ -1,5 +1,4 @@
 use Rattle.std.proofs.Common.{◌≡◌, ◌<◌, length, get_or, subst}
-use Rattle.sled_model.specs.declared.constructor.Constructor.{Constructor}
 use Rattle.instance_reading.specs.Plans.{IsBodyPlan}
 use Rattle.instance_reading.proofs.Lookups.{zip_more}
 use Rattle.instance_reading.proofs.plans.plans_of.Goals as goal
