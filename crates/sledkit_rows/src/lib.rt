@@ -2,12 +2,4 @@
 #![tactic(auto)]
 
 #[cfg(test)]
-mod application_tests;
-#[cfg(test)]
-mod machines;
-#[cfg(test)]
-mod outside;
-#[cfg(test)]
-mod stream_tests;
-#[cfg(test)]
 mod tests;

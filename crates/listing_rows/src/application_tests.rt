@@ -1,6 +1,6 @@
 // Statements whose arms apply constructors, over descriptions of machines.
-use crate::machines::{I486, MIPS, SPARC};
-use crate::outside::{Outside, answer, sound};
+use machine_texts::{I486, MIPS, SPARC};
+use program_runs::{Outside, answer, sound};
 use std::test::Fail;
 use toolkit_cli::Status;
 

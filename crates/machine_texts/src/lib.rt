@@ -1,5 +1,7 @@
-// Whole descriptions of machines.
+//! Whole descriptions of machines, as texts for tests.
+#![tactic(auto)]
 
+/// SPARC version 8, without floating point.
 pub const SPARC: &str = "fields of word (32)
   op 30:31 disp30 0:29 rd 25:29 op2 22:24 imm22 0:21 disp22 0:21
   a 29:29 cond 25:28 op3 19:24 rs1 14:18 i 13:13 rs2 0:4 simm13 0:12
@@ -37,6 +39,7 @@ constructors
   unimp(imm22) is op = 0 & op2 = 0 & imm22
 ";
 
+/// MIPS I, without coprocessors.
 pub const MIPS: &str = "fields of word (32)
   op 26:31 rs 21:25 rt 16:20 rd 11:15 shamt 6:10 funct 0:5
   imm 0:15 target 0:25
@@ -77,6 +80,7 @@ constructors
   memory(rt, imm!, rs) is memory & rt & imm & rs
 ";
 
+/// A part of the Intel 80486 with operands of 8 and of 32 bits.
 pub const I486: &str = "fields of opcode (8) opc 0:7 lo3 0:2 hi5 3:7 two 6:7 alu 3:5 hi4 4:7 cc 0:3
 fields of modrm (8) mod 6:7 reg 3:5 rm 0:2
 fields of sibtok (8) ss 6:7 index 3:5 base 0:2

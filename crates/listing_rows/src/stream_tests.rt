@@ -1,7 +1,7 @@
 // An input that comes in pieces, and one whose reads fail.
 use crate::application_tests::{ADDS, PROCEDURE, PROCEDURE_LINES};
-use crate::machines::{I486, SPARC};
-use crate::outside::{Outside, answer};
+use machine_texts::{I486, SPARC};
+use program_runs::{Outside, answer};
 use std::test::Fail;
 use toolkit_cli::Status;
 

@@ -1,4 +1,6 @@
-// What a run is handed in by the rows, and what it comes to.
+//! Whole runs of the program over texts, an input and sinks in memory, for tests.
+#![tactic(auto)]
+
 use sled_base::{MemShelf, MemSink, MemSource};
 use std::alloc::Global;
 use std::test::Fail;
@@ -6,7 +8,7 @@ use toolkit_cli::{Status, run};
 
 /// The texts `s` and `m`, the input, the most that each read of it gives, the calls that fail for each of the four, and the room of the output.
 #[derive(Drop)]
-pub(crate) struct Outside<'a> {
+pub struct Outside<'a> {
     pub spec: &'a str,
     pub matching: &'a str,
     pub input: &'a [u8],
@@ -19,7 +21,7 @@ pub(crate) struct Outside<'a> {
 }
 
 /// The status, the output and the notes.
-pub(crate) fn answer(
+pub fn answer(
     alloc: Global,
     words: &[&str],
     outside: &Outside<'_>,
@@ -39,7 +41,7 @@ pub(crate) fn answer(
 }
 
 /// The texts and the input, where no call fails.
-pub(crate) fn sound<'a>(spec: &'a str, matching: &'a str, input: &'a [u8]) -> Outside<'a> {
+pub fn sound<'a>(spec: &'a str, matching: &'a str, input: &'a [u8]) -> Outside<'a> {
     Outside {
         spec,
         matching,
