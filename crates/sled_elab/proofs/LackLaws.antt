@@ -1,5 +1,5 @@
 -- What a declaration lacks is one answer at most, and so is what the first lacks.
-use Rattle.std.proofs.Common.{◌≡◌, ℕ, ◌⊎◌, inl, inr, List, [], ◌∷◌, All, Some, None, refl, sym, ap, ◌∙◌}
+use Rattle.std.proofs.Common.{◌≡◌, ℕ, inl, inr, List, [], ◌∷◌, All, Some, None, refl, sym, ap, ◌∙◌}
 use Rattle.std.specs.Prelude.{Option}
 use Rattle.sled_parser.specs.declared.tree.Decl.{Decl}
 use Rattle.sled_parser.specs.declared.tree.Decl.TheVariants as decl
@@ -12,7 +12,7 @@ use Rattle.constructor_meaning.specs.Constructing.{Constructing}
 use Rattle.constructor_meaning.specs.Unmet.{first_unmet}
 use Rattle.constructor_building.specs.Building.{constructors_of}
 use Rattle.constructor_plans.specs.Plans.{ArePlansUnmet}
-use Rattle.sled_elab.specs.Conditions.{unmet_made, IsUnmetMade, IsUnmetBehind, IsUnmetOf, IsLackOf, IsFirstOr, IsFirstLackFrom, IsDescriptionLack, next_number}
+use Rattle.sled_elab.specs.Conditions.{unmet_made, IsUnmetMade, IsUnmetBehind, IsLackOf, IsFirstOr, IsFirstLackFrom, IsDescriptionLack, next_number}
 use Rattle.sled_elab.specs.Declarations.{Described, constructor_tree, nothing}
 use Rattle.sled_elab.specs.Elaboration.{after}
 

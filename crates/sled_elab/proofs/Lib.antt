@@ -10,4 +10,4 @@ pub mod TableLemmas
 pub mod LackLaws
 pub mod MadeConstructors
 pub mod ConstructorLemmas
-mod Readings
+pub mod Readings

@@ -8,7 +8,7 @@ use Rattle.sled_model.specs.Linear.{IsLinear}
 use Rattle.operand_meaning.specs.Terms.{have_equations_in_range}
 use Rattle.tree_meaning.specs.Parts.{labels}
 use Rattle.constructor_scopes.specs.Bodies.{body_of}
-use Rattle.constructor_scopes.specs.Makings.{Made, makings}
+use Rattle.constructor_scopes.specs.Makings.{makings}
 use Rattle.constructor_meaning.specs.Conditions.{body_scope, conditions}
 use Rattle.constructor_meaning.specs.Constructing.{Constructing}
 use Rattle.constructor_meaning.specs.Unmet.{first_unmet}

@@ -1,11 +1,11 @@
 -- Each field and each type keeps one name, and no pattern that a name stands for gets a bare field, where a declaration that lacks nothing is
 -- added.
-use Rattle.std.proofs.Common.{◌≡◌, ℕ, zero, suc, ◌+◌, ◌<◌, ◌≤◌, ◌⊎◌, inl, inr, Bool, true, false, cond, List, [], ◌∷◌, ◌++◌, length, map, All, IsSome, slice_get, Option, Some, None, refl, sym, ap, subst, ◌∙◌, arith}
-use Rattle.std.specs.Prelude.{◌&&◌, bytes_eq, fold}
+use Rattle.std.proofs.Common.{◌≡◌, ℕ, zero, suc, ◌+◌, ◌<◌, ◌≤◌, ◌⊎◌, inl, inr, Bool, true, false, cond, List, [], ◌∷◌, ◌++◌, length, map, All, slice_get, Option, Some, None, refl, sym, ap, subst, ◌∙◌, arith}
+use Rattle.std.specs.Prelude.{bytes_eq, fold}
 use Rattle.std.specs.List.{filter_map}
 use Rattle.std.specs.Option.{option_or}
 use Rattle.std.proofs.lemmas.List.{length_push}
-use Rattle.std.proofs.lemmas.List.Elements.{All-nil, All-cons, All-head, All-tail, All-append, All-map, All-push, All-weaker}
+use Rattle.std.proofs.lemmas.List.Elements.{All-nil, All-head, All-tail, All-map, All-push, All-weaker}
 use Rattle.std.proofs.lemmas.Slice.Eq.{bytes_eq-Decides}
 use Rattle.sled_parser.specs.declared.tree.Decl.{Decl}
 use Rattle.sled_parser.specs.declared.tree.Decl.TheVariants as decl
@@ -35,9 +35,9 @@ use Rattle.constructor_plans.specs.Named.{PatternsBindNothing, BindsNothing}
 use Rattle.constructor_plans.proofs.ScopeFields.{field_number, word_fields}
 use Rattle.constructor_plans.proofs.PickLemmas.{none_is}
 use Rattle.constructor_plans.proofs.TreeFields.{none_bare}
-use Rattle.sled_elab.specs.Conditions.{IsLackOf, definition_conditions, binds_nothing}
+use Rattle.sled_elab.specs.Conditions.{IsLackOf, definition_conditions}
 use Rattle.sled_elab.specs.Elaboration.{after}
-use Rattle.sled_elab.specs.Declarations.{Described, with_name, with_class_alone, with_field, with_class, member, members, first_of, with_member, with_patterns, with_definition, with_built, constructor_tree, nothing}
+use Rattle.sled_elab.specs.Declarations.{Described, with_name, with_class_alone, with_field, with_class, members, first_of, with_member, with_patterns, with_definition, with_built, constructor_tree, nothing}
 use Rattle.sled_elab.specs.Descriptions.{IsSound, HasPlainNames}
 use Rattle.sled_elab.proofs.DefinitionSound.{members_all}
 

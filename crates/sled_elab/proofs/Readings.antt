@@ -1,11 +1,10 @@
 -- What is read of the constructors stays exact where a declaration that lacks nothing is added.
-use Rattle.std.proofs.Common.{◌≡◌, ℕ, true, cond, List, [], ◌++◌, ◌∷◌, map, length, Some, None, refl, sym, ap, subst, ◌∙◌}
+use Rattle.std.proofs.Common.{◌≡◌, ℕ, true, List, [], ◌++◌, ◌∷◌, map, length, Some, None, refl, sym, subst}
 use Rattle.std.specs.Prelude.{Bool, Option}
 use Rattle.std.proofs.lemmas.List.Elements.{All-nil}
 use Rattle.sled_parser.specs.declared.tree.Decl.{Decl}
 use Rattle.sled_parser.specs.declared.tree.Decl.TheVariants as decl
 use Rattle.sled_parser.specs.declared.tree.FieldTree.{FieldTree}
-use Rattle.sled_model.specs.declared.spec.Spec.{Spec}
 use Rattle.operand_meaning.specs.Terms.{have_equations_in_range}
 use Rattle.constructor_meaning.specs.Conditions.{bodies, measure_conditions, conditions}
 use Rattle.constructor_meaning.specs.Constructing.{Constructing}
@@ -17,8 +16,8 @@ use Rattle.constructor_readings.proofs.Kept.{tokens_kept, no_constructors}
 use Rattle.constructor_readings.proofs.MadeFits.{built_readings}
 use Rattle.matchable_arms.specs.Once.{HasOperandsOnce}
 use Rattle.matchable_arms.proofs.Accepted.{built_once}
-use Rattle.sled_elab.specs.Conditions.{IsLackOf, IsUnmetBehind, IsUnmetMade, IsUnmetOf, unmet_made}
-use Rattle.sled_elab.specs.Declarations.{Described, class_of, field_name, with_class_alone, with_class, with_built, constructor_tree, nothing}
+use Rattle.sled_elab.specs.Conditions.{IsLackOf, IsUnmetBehind, IsUnmetOf, unmet_made}
+use Rattle.sled_elab.specs.Declarations.{Described, field_name, with_class_alone, with_class, with_built, constructor_tree, nothing}
 use Rattle.sled_elab.specs.Descriptions.{HasNumbersInRange, HasPlainNames, IsReadOnce, IsSound}
 use Rattle.sled_elab.specs.Elaboration.{after}
 use Rattle.sled_elab.proofs.TableLemmas.{spec_with_fields, class_tokens, class_grows}
@@ -39,7 +38,7 @@ met_behind d c None is h = (is, met_made d c h.0 h.1 h.2)
 met_behind d c (Some n) is h = cc
 
 -- a declaration of constructors that lacks nothing is accepted
-accepted : (d : Described) (c : Constructing) → have_equations_in_range c.equations ≡ true → IsUnmetOf d c None → IsAccepted d.spec d.declared c
+pub accepted : (d : Described) (c : Constructing) → have_equations_in_range c.equations ≡ true → IsUnmetOf d c None → IsAccepted d.spec d.declared c
 accepted d c numbers unmet =
     let met = met_behind d c (first_unmet (conditions d.spec d.declared c)) refl unmet in
     record { numbers = numbers; met = met.0; plans = met.1.plans; measures = met.1.measures }

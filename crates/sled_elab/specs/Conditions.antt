@@ -1,5 +1,5 @@
 -- What a description has to meet, in the order of the conditions' numbers, and the first condition that its declarations lack.
-use Rattle.std.specs.Prelude.{◌≡◌, ℕ, ◌+◌, Bool, not, ◌&&◌, ◌||◌, ◌==◌, nat_le, nat_lt, List, [], ◌∷◌, ◌++◌, length, Option, Some, None, if◌then◌else◌}
+use Rattle.std.specs.Prelude.{◌≡◌, ℕ, ◌+◌, Bool, not, ◌&&◌, ◌||◌, ◌==◌, nat_le, nat_lt, List, [], ◌∷◌, ◌++◌, length, Option, Some, None}
 use Rattle.std.specs.List.{list_all}
 use Rattle.sled_lexer.specs.Spelled.{number_value}
 use Rattle.sled_parser.specs.declared.tree.Decl.{Decl}
@@ -8,7 +8,6 @@ use Rattle.sled_parser.specs.declared.tree.FieldTree.{FieldTree}
 use Rattle.sled_parser.specs.declared.tree.ItemTree.{ItemTree}
 use Rattle.sled_parser.specs.declared.tree.PatternTree.{PatternTree}
 use Rattle.sled_model.specs.declared.pattern.Pattern.{Pattern}
-use Rattle.sled_model.specs.declared.spec.Spec.{Spec}
 use Rattle.sled_model.specs.Shapes.{spec_shapes, conjunctions_agree, chains_are_closed, sides_have_one_shape}
 use Rattle.tree_meaning.specs.Names.{are_distinct, are_new}
 use Rattle.tree_meaning.specs.Scopes.{Declared}

@@ -1,14 +1,9 @@
 -- What holds of a description that lacks nothing so far.
-use Rattle.std.specs.Prelude.{◌≡◌, ◌<◌, true, [], length, All}
+use Rattle.std.specs.Prelude.{◌≡◌, true}
 use Rattle.sled_parser.specs.declared.tree.Decl.{Decl}
 use Rattle.sled_parser.specs.declared.tree.Decl.TheVariants as decl
 use Rattle.sled_model.specs.declared.spec.Spec.{Spec}
-use Rattle.sled_model.specs.Specs.{IsSpec, names_of}
-use Rattle.tree_meaning.specs.declared.scope.Meaning.{Meaning}
-use Rattle.tree_meaning.specs.declared.scope.Meaning.TheVariants as meaning
-use Rattle.tree_meaning.specs.Names.{is_among, are_distinct}
 use Rattle.tree_meaning.specs.Scopes.{Declared, declared_in}
-use Rattle.tree_meaning.specs.Sound.{IsSoundMeaning}
 use Rattle.tree_meaning.specs.Patterns.{has_all_in_range}
 use Rattle.operand_meaning.specs.Terms.{have_equations_in_range}
 use Rattle.sled_elab.specs.declared.description.Description.{Description}

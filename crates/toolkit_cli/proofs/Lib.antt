@@ -3,4 +3,5 @@ pub mod RangeLemmas
 pub mod TextLemmas
 pub mod StandsLemmas
 pub mod OneListing
+pub mod Accepted
 pub mod ReplyLaws

@@ -33,6 +33,7 @@ use Rattle.toolkit_cli.specs.Texts.{IsLexed, IsParsed, IsNoSentence, NestsDeep, 
 use Rattle.std.specs.Option.{ForSome}
 use Rattle.toolkit_cli.specs.Reply.{Settled, Shelved, no_form, refused_text, accepted, MakesBoth, SettlesDis, Settles, TellsTexts, Reply, reply, listing_reply}
 use Rattle.toolkit_cli.specs.Stands.{Answered}
+use Rattle.toolkit_cli.proofs.Accepted.{accepted_matchable}
 use Rattle.toolkit_cli.proofs.OneListing.{one_listing}
 
 -- ---- where the reading of a text ends
@@ -251,7 +252,8 @@ settled_by_both words shelf t m (taking, both) (accepted other base) told_spec t
     let stated : x.1.statement ≡ both.statement = one_stated d m x.1.statement both.statement over (both.stated.1 m told_match) in
     let takes : IsTakingOf d.spec both.statement other =
     subst (λ (s : Statement). IsTakingOf d.spec s other) stated (subst (λ (e : Described). IsTakingOf e.spec x.1.statement other) same x.1.takes) in
-    alike (accepted other base) (accepted other words.base) (ap (accepted other) x.0) input ∙ one_reply d both.statement other taking words.base both.matchable takes both.takes input
+    let matchable = accepted_matchable t m d both.statement (both.spec.1 t told_spec) (both.stated.1 m told_match) in
+    alike (accepted other base) (accepted other words.base) (ap (accepted other) x.0) input ∙ one_reply d both.statement other taking words.base matchable takes both.takes input
 
 -- all that they come to is alike
 record Comes (words : Words) (shelf : Shelved) : Type 0 where

@@ -1,7 +1,7 @@
 -- How what stands after a part of a run makes what stands after the whole.
 use Rattle.std.proofs.Common.{◌≡◌, ◌⊎◌, inl, inr, ℕ, zero, suc, take, ◌≤◌, List, [], length, Some, None, refl, sym, ◌∙◌, ap, subst, append-nil, arith}
 use Rattle.std.proofs.Math.Seq.{take-length}
-use Rattle.std.specs.Prelude.{Option, option_map, codes}
+use Rattle.std.specs.Prelude.{Option, option_map}
 use Rattle.std.specs.Option.{ForSome}
 use Rattle.std.specs.Io.KnownBytes.{Appends, Keeps}
 use Rattle.sled_base.specs.Causes.{Rose}
@@ -19,7 +19,7 @@ use Rattle.toolkit_cli.specs.declared.texts.TextStop.{TextStop}
 use Rattle.toolkit_cli.specs.declared.texts.TextStop.TheVariants.{Unread as UnreadText, Refused as RefusedText, NoMemory as NoTextMemory}
 use Rattle.toolkit_cli.specs.Words.{Words}
 use Rattle.toolkit_cli.specs.Messages.{message, problem_number, usage_text}
-use Rattle.toolkit_cli.specs.Reply.{Settled, Shelved, no_form, refused_text, accepted, Settles, Reply, reply, refused, listing_reply, listed_reply, stop_problem, usage_reply}
+use Rattle.toolkit_cli.specs.Reply.{Settled, Shelved, no_form, refused_text, accepted, Settles, Reply, reply, refused, listing_reply, listed_reply, usage_reply}
 use Rattle.toolkit_cli.specs.Told.{Told}
 use Rattle.toolkit_cli.specs.Stands.{Change, HasFailed, Gets, GetsPrefix, GetsNothing, IsReply, OutFailed, NotesFailed, HasPart, IsAnswer, Answered, IsForgone, Stands, StopTold, Unread, UnreadByWords, AcceptsByWords}
 

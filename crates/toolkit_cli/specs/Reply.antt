@@ -2,7 +2,6 @@
 use Rattle.std.specs.Prelude.{◌≡◌, ◌⊎◌, ℕ, Bool, false, List, [], Option, None, Some, option_map, codes}
 use Rattle.std.specs.Option.{ForSome}
 use Rattle.sled_model.specs.declared.statement.Statement.{Statement}
-use Rattle.match_meaning.specs.Matchable.{IsMatchable}
 use Rattle.sled_elab.specs.Declarations.{Described}
 use Rattle.disassembler.specs.Disassembly.{IsTakingOf}
 use Rattle.image_listing.specs.declared.answers.Stop.{Stop}
@@ -48,13 +47,12 @@ RefusesText words shelf name p =
     ⊎ ((name ≡ words.matching) × ((d : Described) × MakesSpec words shelf d × IsThere shelf words.matching (λ t. RefusesStatement d t p)))
 
 -- SPEC makes a description, MATCH a statement over what its names stand for, and this says what stands at each place by the statement.
--- It can be matched, so that one thing at most stands at a place (`one_taking` of `disassembler`).
+-- What is accepted can be matched (`acceptance_laws`), so that one thing at most stands at a place (`one_taking` of `disassembler`).
 pub record MakesBoth (words : Words) (shelf : Shelved) (taking : Taking) : Type 0 where
   pub description : Described
   pub statement : Statement
   pub spec : MakesSpec words shelf description
   pub stated : MakesStatement words shelf description statement
-  pub matchable : IsMatchable description.spec statement
   pub takes : IsTakingOf description.spec statement taking
 
 abbrev pub SettlesDis : Words → Shelved → Settled → Type 0

@@ -1,4 +1,4 @@
-use Rattle.std.proofs.Common.{◌≡◌, Some, None, sym, ap, subst, ◌∙◌}
+use Rattle.std.proofs.Common.{Some, None, sym, ap, subst, ◌∙◌}
 use Rattle.constructor_meaning.specs.Conditions.{conditions}
 use Rattle.constructor_meaning.specs.Constructing.{constructing}
 use Rattle.constructor_meaning.specs.Draft.{IsDraftOf}

@@ -1,4 +1,4 @@
-use Rattle.std.proofs.Common.{◌≡◌, sym, ap, ◌∙◌}
+use Rattle.std.proofs.Common.{sym, ap, ◌∙◌}
 use Rattle.constructor_meaning.specs.Constructing.{constructing}
 use Rattle.sled_elab.specs.Conditions.{unmet_made}
 use Rattle.sled_elab.specs.Descriptions.{described_in}

@@ -1,4 +1,4 @@
-use Rattle.std.proofs.Common.{All, sym, ap, subst, ◌∙◌}
+use Rattle.std.proofs.Common.{All, sym, subst, ◌∙◌}
 use Rattle.sled_model.specs.Linear.{IsLinear}
 use Rattle.constructor_meaning.specs.Constructing.{constructing}
 use Rattle.constructor_plans.specs.Plans.{ArePlansUnmet}

@@ -1,10 +1,9 @@
-use Rattle.std.proofs.Common.{◌∙◌, Some, None, take, drop, refl, sym, ap, subst, arith}
-use Rattle.std.proofs.Math.ListN.{drop_of_length-le}
+use Rattle.std.proofs.Common.{Some, sym, ap, subst, arith}
 use Rattle.std.proofs.lemmas.List.Elements.{All-get_or}
 use Rattle.sled_elab.specs.Conditions.{IsLackOf, IsFirstLackFrom}
 use Rattle.sled_elab.specs.Declarations.{Described, nothing}
 use Rattle.sled_elab.specs.Descriptions.{described_in, HasNumbersInRange, HasPlainNames, IsReadOnce}
-use Rattle.sled_elab.proofs.DeclarationLemmas.{made_more, lack_past, lack_here, lack_end, next_within}
+use Rattle.sled_elab.proofs.DeclarationLemmas.{made_more, lack_past, lack_here, next_within}
 use Rattle.sled_elab.proofs.PlainNames.{plain_after, nothing_plain}
 use Rattle.sled_elab.proofs.Readings.{read_after, nothing_read}
 use Rattle.sled_elab.proofs.declarations.describe.Goals as goal

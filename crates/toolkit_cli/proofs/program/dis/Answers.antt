@@ -59,7 +59,7 @@ returns-clause-stands g c =
     let two : IsThere shelf name (λ t. IsStated d t statement) = (sym (c.read_decls.ensures.absent name) ∙ c.in-Ok-read_statement.ensures.there, λ t told. c.in-Ok-read_statement.ensures.made t (c.read_decls.ensures.texts name ∙ told)) in
     let t = taking_of d.spec statement c.in-Ok-read_statement.ensures.matchable in
     let both : MakesBoth (command_words c.args.command.now) shelf t.0 =
-    record { description = d; statement = statement; spec = one; stated = two; matchable = c.in-Ok-read_statement.ensures.matchable; takes = t.1 } in
+    record { description = d; statement = statement; spec = one; stated = two; takes = t.1 } in
     Stands-along _ _ _ _ _ _ _ _
     (λ s e. subst (SettlesDis (command_words c.args.command.now) shelf) (sym e) (refl, both))
     (λ who read. inr (inr (read.0, (t.0, both, read.1))))
